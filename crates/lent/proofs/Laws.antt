@@ -1,0 +1,57 @@
+-- Laws on lists past their end, on tests and on one more element that every crate's proofs cite.
+use mathlib.Core.Path.{_≡_, _∙_, refl, ap, sym}
+use mathlib.Core.Bool.{Bool, true, false}
+use mathlib.Core.List.{List, [], _∷_}
+use Prim.Native.Nat.{ℕ, suc, _+_, _/_, _%_, _<_, _≤_}
+use native.Mathlib.Omega.{arith}
+use native.Mathlib.Numerals.{add-one}
+use lib.Dec.{ltb, eqb}
+use lib.ListN.{length, getD, drop, set, List·getD-eq-default}
+use lib.Seq.{drop-cons, set-out}
+use borrow.Author.Tests.{ltb-true, ltb-false, eqb-true, eqb-false}
+use Rattle.lent.specs.Lent.{pick, at, pairAtOf, pairSetOf}
+
+-- what stands past the end is 0
+pub at-past : (l : List ℕ) (i : ℕ) → length l ≤ i → 0 ≡ at l i
+at-past l i h = sym (List·getD-eq-default l 0 h)
+
+-- a store past the end changes nothing
+pub set-past : (l : List ℕ) (i v : ℕ) → length l ≤ i → l ≡ set l i v
+set-past l i v h = sym (set-out l i v h)
+
+-- two bytes past the end
+pub pair-past : (l : List ℕ) (i : ℕ) → length l ≤ i → 0 ≡ pairAtOf l i
+unfolding pairAtOf
+pair-past l i h =
+    let k : length l ≤ i + 1 = omega arith in
+    rw (List·getD-eq-default l 0 h, List·getD-eq-default l 0 k)
+
+pub pair-set-past : (l : List ℕ) (i v : ℕ) → length l ≤ i → l ≡ pairSetOf l i v
+unfolding pairSetOf
+pair-set-past l i v h =
+    let k : length l ≤ i + 1 = omega arith in
+    rw (set-out l i (v / 256 % 256) h, set-out l (i + 1) (v % 256) k)
+
+-- what is left from i on: the element there, and what is left from i + 1 on
+pub drop-more : (l : List ℕ) (i : ℕ) → i < length l → drop i l ≡ at l i ∷ drop (i + 1) l
+drop-more l i h = rw (add-one i, drop-cons l i 0)
+
+-- a test, either way
+pub test : (b : Bool) {P : Type 0} → (b ≡ true → P) → (b ≡ false → P) → P
+test true f g = f refl
+test false f g = g refl
+
+-- what holds of both choices holds of the choice
+pub by-lt : {A : Type 0} (P : A → Type 0) (m n : ℕ) (x y : A) → (m < n → P x) → (n ≤ m → P y) → P (pick (ltb m n) x y)
+by-lt P m n x y f g = go (ltb m n) refl
+  where
+    go : (b : Bool) → ltb m n ≡ b → P (pick b x y)
+    go true t = f (ltb-true m n t)
+    go false t = g (ltb-false m n t)
+
+pub by-eq : {A : Type 0} (P : A → Type 0) (m n : ℕ) (x y : A) → (m ≡ n → P x) → ((m ≡ n → ⊥) → P y) → P (pick (eqb m n) x y)
+by-eq P m n x y f g = go (eqb m n) refl
+  where
+    go : (b : Bool) → eqb m n ≡ b → P (pick b x y)
+    go true t = f (eqb-true m n t)
+    go false t = g (eqb-false m n t)

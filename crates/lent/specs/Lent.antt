@@ -1,0 +1,26 @@
+-- What lent bytes and words hold and are left with, for every index: what stands past the end reads as 0, and a store there does nothing.
+use Prim.Native.Nat.{ℕ, _+_, _*_, _/_, _%_}
+use mathlib.Core.Bool.{Bool, true, false}
+use mathlib.Core.List.{List}
+use lib.ListN.{getD, set}
+
+-- the first where the test holds, else the second
+abbrev pub pick : {A : Type 0} → Bool → A → A → A
+pick true a b = a
+pick false a b = b
+
+abbrev pub both : Bool → Bool → Bool
+both true b = b
+both false b = false
+
+-- what stands at a place, and 0 past the end
+abbrev pub at : List ℕ → ℕ → ℕ
+at l i = getD l i 0
+
+-- two bytes as a number, high byte first (01, "Panel book": "high byte first as everywhere")
+unfoldable pub pairAtOf : List ℕ → ℕ → ℕ
+pairAtOf l i = 256 * at l i + at l (i + 1)
+
+-- a number in two bytes, high byte first
+unfoldable pub pairSetOf : List ℕ → ℕ → ℕ → List ℕ
+pairSetOf l i v = set (set l i (v / 256 % 256)) (i + 1) (v % 256)

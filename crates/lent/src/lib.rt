@@ -1,0 +1,63 @@
+// Bytes and words that a caller lends, read and written by total functions: no index is ever asked to be in range.
+ghost use mathlib.Core.Path.{_≡_};
+ghost use lib.ListN.{set};
+ghost use Rattle.lent.specs.Lent.{at, both, pairAtOf, pairSetOf};
+
+// Whether both hold.
+pub fn both(a: bool, b: bool) -> bool
+    ensures { λ r. ⌜ r ≡ both a b ⌝ }
+{
+    if a {
+        return b;
+    }
+    false
+}
+
+// The byte at a place, and 0 past the end.
+pub fn peek(bytes: &[u8], i: usize) -> u8
+    ensures { λ r. ⌜ r ≡ at (now (bytes .entry)) i ⌝ }
+{
+    if i < bytes.len() {
+        return bytes[i];
+    }
+    0
+}
+
+// A byte stored at a place; past the end nothing happens.
+pub fn poke(bytes: &mut [u8], i: usize, v: u8)
+    ensures { λ r. ⌜ now (bytes .exit) ≡ set (now (bytes .entry)) i v ⌝ }
+{
+    if i < bytes.len() {
+        bytes[i] = v;
+    }
+}
+
+// The word at a place, and 0 past the end.
+pub fn fetch(words: &[u16], i: usize) -> u16
+    ensures { λ r. ⌜ r ≡ at (now (words .entry)) i ⌝ }
+{
+    if i < words.len() {
+        return words[i];
+    }
+    0
+}
+
+// Two bytes from a place on as a number, high byte first.
+pub fn pair_at(bytes: &[u8], i: usize) -> u16
+    ensures { λ r. ⌜ r ≡ pairAtOf (now (bytes .entry)) i ⌝ }
+{
+    if i < bytes.len() {
+        return 256 * peek(bytes, i) as u16 + peek(bytes, i + 1) as u16;
+    }
+    0
+}
+
+// A number in two bytes from a place on, high byte first.
+pub fn pair_set(bytes: &mut [u8], i: usize, v: u16)
+    ensures { λ r. ⌜ now (bytes .exit) ≡ pairSetOf (now (bytes .entry)) i v ⌝ }
+{
+    if i < bytes.len() {
+        poke(bytes, i, (v / 256 % 256) as u8);
+        poke(bytes, i + 1, (v % 256) as u8);
+    }
+}
