@@ -1,0 +1,5 @@
+pub mod Map
+pub mod Record
+pub mod State
+pub mod Periods
+pub mod Rules

@@ -1,0 +1,93 @@
+// The machine's record, by value.
+ghost use mathlib.Core.Path.{_≡_};
+ghost use Rattle.sh_state.specs.Record.{pushOf, popOf, newestOf, freshOf};
+
+pub struct Machine {
+    pub pc: u16,
+    pub ac: u8,
+    pub cy: u8,
+    // 0 running, 1 HALT, 2 STOP
+    pub mode: u8,
+    // CY times 4,096 plus PC, newest first
+    pub stack: [u16; Machine::LEVELS],
+    // Timer0's
+    pub prescaler: u16,
+    pub counter: u8,
+    pub load: u8,
+    pub baseprescaler: u8,
+    pub basecounter: u8,
+    pub watchdog: u16,
+    pub pina: u8,
+    pub pinb: u8,
+    pub pinc: u8,
+    pub pind: u8,
+    // bit 0 watchdog on, bits 1 and 2 the bonding bits BD0 and BD1
+    pub options: u8,
+    // 1 while a ROM read waits, and the address that it reads; 0, 0 else
+    pub pending: u8,
+    pub address: u16,
+}
+
+impl Machine {
+    pub const LEVELS: usize = 8;
+
+    pub const CELLS: usize = 1024;
+
+    pub const WORDS: usize = 4096;
+
+    // The machine after power-on and the pin reset, with the options of its board.
+    pub fn fresh(options: u8) -> Self
+        ensures { λ r. ⌜ r ≡ freshOf options ⌝ }
+    {
+        Self {
+            pc: 0,
+            ac: 0,
+            cy: 0,
+            mode: 0,
+            stack: [0; Machine::LEVELS],
+            prescaler: 0,
+            counter: 0,
+            load: 0,
+            baseprescaler: 0,
+            basecounter: 0,
+            watchdog: 4096,
+            pina: 0,
+            pinb: 0,
+            pinc: 0,
+            pind: 0,
+            options,
+            pending: 0,
+            address: 0,
+        }
+    }
+
+    // The machine with an entry pushed: the oldest of eight drops out.
+    pub fn push(self, v: u16) -> Machine
+        ensures { λ r. ⌜ r ≡ pushOf self v ⌝ }
+    {
+        let s = self.stack;
+        let t = [v, s[0], s[1], s[2], s[3], s[4], s[5], s[6]];
+        let mut n = self;
+        n.stack = t;
+        n
+    }
+
+    // The machine with the newest entry taken: 0 enters at the bottom.
+    pub fn pop(self) -> Machine
+        ensures { λ r. ⌜ r ≡ popOf self ⌝ }
+    {
+        let s = self.stack;
+        let t = [s[1], s[2], s[3], s[4], s[5], s[6], s[7], 0];
+        let mut n = self;
+        n.stack = t;
+        n
+    }
+
+    // The newest entry.
+    pub fn newest(self) -> u16
+        ensures { λ r. ⌜ r ≡ newestOf self ⌝ }
+    {
+        let s = self.stack;
+        s[0]
+    }
+}
