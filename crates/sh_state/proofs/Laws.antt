@@ -1,4 +1,4 @@
--- What a match on a kind leaves, and the search for the lowest broken cell as its loop finds it.
+-- What a match on a kind or an answer leaves, what lies past the map, and the search for the lowest broken cell as its loop finds it.
 use mathlib.Core.Path.{_≡_, _∙_, refl, ap, sym}
 use mathlib.Core.Bool.{Bool, true, false}
 use mathlib.Core.List.{List, [], _∷_}
@@ -11,6 +11,9 @@ use borrow.Author.Tests.{le-ltb, ne-eqb, eqb-true, eqb-false}
 use Rattle.lent.specs.Lent.{at}
 use Rattle.lent.proofs.Laws.{test, drop-more}
 use Rattle.sh_state.specs.declared.map.Kind.{Kind}
+use Rattle.sh_state.specs.declared.judge.Judged.{Judged}
+use Rattle.sh_state.specs.declared.rules.Found.{Found}
+use Rattle.sh_state.specs.Judge.{cellsJudged, firstOf}
 use Rattle.sh_state.specs.declared.rules.Found.the-variants.{At, Nothing}
 use Rattle.sh_state.specs.Map.{kindOf, heldIn, heldOf, writtenIn}
 use Rattle.sh_state.specs.Rules.{cellFits, brokenFrom}
@@ -44,3 +47,9 @@ module _ (l : List ℕ) (i : ℕ) where
     pub broken-on : r ≡ true → brokenFrom (drop (i + 1) l) (i + 1) ≡ brokenFrom (drop i l) i
     unfolding brokenFrom
     broken-on b = rw (drop-more l i h, ← e, b)
+
+pub cells-at : {f g : Found} {r : Judged} → f ≡ g → r ≡ cellsJudged g → r ≡ cellsJudged f
+cells-at p q = q ∙ sym (ap cellsJudged p)
+
+pub first-at : {a b : Judged} {r : Judged} (j : Judged) → a ≡ b → r ≡ firstOf b j → r ≡ firstOf a j
+first-at j p q = q ∙ sym (ap (λ (n : Judged). firstOf n j) p)

@@ -3,3 +3,4 @@ pub mod Record
 pub mod State
 pub mod Periods
 pub mod Rules
+pub mod Judge
