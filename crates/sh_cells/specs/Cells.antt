@@ -1,0 +1,96 @@
+-- What an address means, what a cell reads as, and what a write leaves in the cell and in the record (01, "One instruction").
+use Prim.Native.Nat.{ℕ, _+_, _-_, _*_, _/_, _%_}
+use mathlib.Core.Bool.{Bool, true, false}
+use mathlib.Core.List.{List}
+use lib.Dec.{eqb}
+use lib.Bits.{bitAnd, bitOr}
+use lib.ListN.{set}
+use Rattle.lent.specs.Lent.{pick, at}
+use Rattle.sh_state.specs.declared.machine.Machine.{Machine}
+use Rattle.sh_state.specs.declared.map.Kind.{Kind}
+use Rattle.sh_state.specs.declared.map.Kind.the-variants.{Register, Data, Display, Scan, Sound, Unmapped}
+use Rattle.sh_state.specs.Map.{kindOf, writtenOf}
+use Rattle.sh_state.specs.Periods.{baseOn, periodOf}
+use Rattle.sh_state.specs.Record.{setPrescaler, setCounter, setLoad, setBasePrescaler, setBaseCounter, setWatchdog, setPending}
+use Rattle.sh_state.specs.State.{State, state}
+use Rattle.sh_cells.specs.declared.Reading.{Reading}
+
+-- the cell that DPH ($012), DPM ($011) and DPL ($010) point at (003, 1.5)
+unfoldable pub pointedOf : List ℕ → ℕ
+pointedOf l = 128 * at l 0x12 + 16 * at l 0x11 + at l 0x10
+
+-- the cell that an address means: $00F means the one pointed at
+unfoldable pub targetOf : List ℕ → ℕ → ℕ
+targetOf l a = pick (eqb a 0x0F) (pointedOf l) a
+
+-- HOUSE: a port bit reads the pin where its control bit is 0, the latch where it is 1
+unfoldable pub portOf : ℕ → ℕ → ℕ → ℕ
+portOf pin latch control = bitOr (bitAnd pin (255 - control)) (bitAnd latch control)
+
+-- what a cell that is no port and no counter reads as: sound ($370-$377, written only) and unmapped cells read 0
+unfoldable pub plainIn : Kind → List ℕ → ℕ → ℕ
+plainIn Register l a = at l a
+plainIn Data l a = at l a
+plainIn Display l a = at l a
+plainIn Scan l a = at l a
+plainIn Sound l a = 0
+plainIn Unmapped l a = 0
+
+unfoldable pub plainOf : List ℕ → ℕ → ℕ
+plainOf l a = plainIn (kindOf a) l a
+
+-- what a cell reads as: $004 and $005 the live counter, $008-$00B the ports with their control in $016-$019
+unfoldable pub valueOf : State → ℕ → ℕ
+valueOf s a =
+    pick (eqb a 0x04) (s .machine .counter % 16)
+    (pick (eqb a 0x05) (s .machine .counter / 16)
+    (pick (eqb a 0x08) (portOf (s .machine .pina) (at (s .memory) 0x08) (at (s .memory) 0x16))
+    (pick (eqb a 0x09) (portOf (s .machine .pinb) (at (s .memory) 0x09) (at (s .memory) 0x17))
+    (pick (eqb a 0x0A) (portOf (s .machine .pinc) (at (s .memory) 0x0A) (at (s .memory) 0x18))
+    (pick (eqb a 0x0B) (portOf (s .machine .pind) (at (s .memory) 0x0B) (at (s .memory) 0x19)) (plainOf (s .memory) a))))))
+
+-- the watchdog starts anew at the period that its control chooses
+unfoldable pub restartedOf : Machine → ℕ → Machine
+restartedOf m control = setWatchdog m (periodOf control)
+
+-- what reading a cell does to the record: $01E restarts the watchdog
+unfoldable pub seenOf : State → ℕ → Machine
+seenOf s a = pick (eqb a 0x1E) (restartedOf (s .machine) (at (s .memory) 0x1E)) (s .machine)
+
+-- a read: the value, and the record after it
+unfoldable pub readOf : State → ℕ → Reading
+readOf s a = record { value = valueOf s a; machine = seenOf s a }
+
+-- what the cell holds after v is written where it held old: the bits that a write stores are v's, the others stay
+unfoldable pub keptOf : ℕ → ℕ → ℕ → ℕ
+keptOf old a v = bitOr (bitAnd old (255 - writtenOf a)) (bitAnd v (writtenOf a))
+
+-- $003: the base prescaler is cleared; a value that disables the base timer clears its counter too
+unfoldable pub baseWrittenOf : Machine → ℕ → Machine
+baseWrittenOf m v = pick (baseOn v) (setBasePrescaler m 0) (setBaseCounter (setBasePrescaler m 0) 0)
+
+-- $004: the load's low nibble
+unfoldable pub loadLowOf : Machine → ℕ → Machine
+loadLowOf m v = setLoad m (m .load / 16 * 16 + v % 16)
+
+-- $005: the load's high nibble, and then the counter takes the load
+unfoldable pub loadHighOf : Machine → ℕ → Machine
+loadHighOf m v = setCounter (setLoad m (v % 16 * 16 + m .load % 16)) (v % 16 * 16 + m .load % 16)
+
+-- $01A: a read is pending at $01C, $01B and the nibble written
+unfoldable pub askedOf : State → ℕ → Machine
+askedOf s v =
+    setPending (s .machine) 1 (256 * (at (s .memory) 0x1C % 16) + 16 * (at (s .memory) 0x1B % 16) + v % 16)
+
+-- what the record notices of v being written: $002 clears Timer0's prescaler, $01E restarts the watchdog
+unfoldable pub noticedOf : State → ℕ → ℕ → Machine
+noticedOf s a v =
+    pick (eqb a 0x02) (setPrescaler (s .machine) 0)
+    (pick (eqb a 0x03) (baseWrittenOf (s .machine) v)
+    (pick (eqb a 0x04) (loadLowOf (s .machine) v)
+    (pick (eqb a 0x05) (loadHighOf (s .machine) v)
+    (pick (eqb a 0x1A) (askedOf s v) (pick (eqb a 0x1E) (restartedOf (s .machine) v) (s .machine))))))
+
+-- a write: the record that noticed it, and at most one cell changed
+unfoldable pub writeOf : State → ℕ → ℕ → State
+writeOf s a v = state (noticedOf s a v) (set (s .memory) a (keptOf (at (s .memory) a) a v))
