@@ -1,15 +1,15 @@
 -- Laws on lists past their end, on tests and on one more element that every crate's proofs cite.
 use mathlib.Core.Path.{_≡_, _∙_, refl, ap, sym}
 use mathlib.Core.Bool.{Bool, true, false}
-use mathlib.Core.List.{List, [], _∷_}
+use mathlib.Core.List.{List, [], _∷_, _++_, append-nil}
 use Prim.Native.Nat.{ℕ, suc, _+_, _/_, _%_, _<_, _≤_}
 use native.Mathlib.Omega.{arith}
 use native.Mathlib.Numerals.{add-one}
 use lib.Dec.{ltb, eqb}
-use lib.ListN.{length, getD, drop, set, List·getD-eq-default}
-use lib.Seq.{drop-cons, set-out}
+use lib.ListN.{length, getD, take, drop, set, drop-of-length-le, List·getD-eq-default}
+use lib.Seq.{drop-cons, set-out, take-suc-set, drop-set-lt, take-all, append-snoc}
 use borrow.Author.Tests.{ltb-true, ltb-false, eqb-true, eqb-false}
-use Rattle.lent.specs.Lent.{pick, at, pairAtOf, pairSetOf}
+use Rattle.lent.specs.Lent.{pick, at, pairAtOf, pairSetOf, mapFrom}
 
 -- what stands past the end is 0
 pub at-past : (l : List ℕ) (i : ℕ) → length l ≤ i → 0 ≡ at l i
@@ -55,3 +55,15 @@ by-eq P m n x y f g = go (eqb m n) refl
     go : (b : Bool) → eqb m n ≡ b → P (pick b x y)
     go true t = f (eqb-true m n t)
     go false t = g (eqb-false m n t)
+
+-- A map by place as a loop does it: the first i elements are done, the rest is still to do.
+module _ (f : ℕ → ℕ → ℕ) (l : List ℕ) (i : ℕ) where
+  pub map-end : length l ≤ i → l ≡ take i l ++ mapFrom f (drop i l) i
+  unfolding mapFrom
+  map-end h = rw (drop-of-length-le l h, append-nil (take i l)) (sym (take-all i l h))
+
+  pub map-on : i < length l → take (i + 1) (set l i (f i (at l i))) ++ mapFrom f (drop (i + 1) (set l i (f i (at l i)))) (i + 1) ≡ take i l ++ mapFrom f (drop i l) i
+  unfolding mapFrom
+  map-on h =
+      let d : drop (suc i) (set l i (f i (at l i))) ≡ drop (suc i) l = drop-set-lt (suc i) l i (f i (at l i)) (omega arith) in
+      rw (drop-more l i h, add-one i, take-suc-set l i (f i (at l i)) h, d) (append-snoc (take i l) (f i (at l i)) _)

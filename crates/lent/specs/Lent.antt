@@ -1,7 +1,7 @@
 -- What lent bytes and words hold and are left with, for every index: what stands past the end reads as 0, and a store there does nothing.
 use Prim.Native.Nat.{ℕ, _+_, _*_, _/_, _%_}
 use mathlib.Core.Bool.{Bool, true, false}
-use mathlib.Core.List.{List}
+use mathlib.Core.List.{List, [], _∷_}
 use lib.ListN.{getD, set}
 
 -- the first where the test holds, else the second
@@ -24,3 +24,8 @@ pairAtOf l i = 256 * at l i + at l (i + 1)
 -- a number in two bytes, high byte first
 unfoldable pub pairSetOf : List ℕ → ℕ → ℕ → List ℕ
 pairSetOf l i v = set (set l i (v / 256 % 256)) (i + 1) (v % 256)
+
+-- each element by its place, from place i on
+unfoldable pub mapFrom : (ℕ → ℕ → ℕ) → List ℕ → ℕ → List ℕ
+mapFrom f [] i = []
+mapFrom f (v ∷ l) i = f i v ∷ mapFrom f l (i + 1)

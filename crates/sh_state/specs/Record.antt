@@ -1,5 +1,5 @@
 -- The machine's record: a setter for each field or pair of fields that moves, the stack, and the fresh machine (01, "What is lent").
-use Prim.Native.Nat.{ℕ}
+use Prim.Native.Nat.{ℕ, _+_, _*_, _%_}
 use mathlib.Core.List.{List, [], _∷_}
 use lib.ListN.{replicate}
 use Rattle.lent.specs.Lent.{at}
@@ -73,6 +73,10 @@ setPinD m v =
 unfoldable pub setPending : Machine → ℕ → ℕ → Machine
 setPending m p a =
     record { pc = m .pc; ac = m .ac; cy = m .cy; mode = m .mode; stack = m .stack; prescaler = m .prescaler; counter = m .counter; load = m .load; baseprescaler = m .baseprescaler; basecounter = m .basecounter; watchdog = m .watchdog; pina = m .pina; pinb = m .pinb; pinc = m .pinc; pind = m .pind; options = m .options; pending = p; address = a }
+
+-- a stack entry: CY times 4,096 plus PC
+unfoldable pub entryOf : ℕ → ℕ → ℕ
+entryOf cy pc = cy % 2 * 4096 + pc % 4096
 
 -- v, and then the seven newest: the oldest of eight drops out
 abbrev pub pushed : ℕ → List ℕ → List ℕ

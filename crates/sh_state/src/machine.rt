@@ -1,6 +1,6 @@
 // The machine's record, by value.
 ghost use mathlib.Core.Path.{_≡_};
-ghost use Rattle.sh_state.specs.Record.{pushOf, popOf, newestOf, freshOf};
+ghost use Rattle.sh_state.specs.Record.{entryOf, pushOf, popOf, newestOf, freshOf};
 
 pub struct Machine {
     pub pc: u16,
@@ -90,4 +90,11 @@ impl Machine {
         let s = self.stack;
         s[0]
     }
+}
+
+// A stack entry: CY times 4,096 plus PC.
+pub fn entry(cy: u8, pc: u16) -> u16
+    ensures { λ r. ⌜ r ≡ entryOf cy pc ⌝ }
+{
+    (cy % 2) as u16 * 4096 + pc % 4096
 }
