@@ -11,6 +11,7 @@ use borrow.Author.Tests.{le-ltb, ne-eqb, eqb-true, eqb-false}
 use Rattle.lent.specs.Lent.{at}
 use Rattle.lent.proofs.Laws.{test, drop-more}
 use Rattle.sh_state.specs.declared.map.Kind.{Kind}
+use Rattle.sh_state.specs.declared.map.Kind.the-variants.{Unmapped}
 use Rattle.sh_state.specs.declared.judge.Judged.{Judged}
 use Rattle.sh_state.specs.declared.rules.Found.{Found}
 use Rattle.sh_state.specs.Judge.{cellsJudged, firstOf}
@@ -24,11 +25,15 @@ held-at a p q = q ∙ sym (ap (λ (n : Kind). heldIn n a) p)
 pub written-at : {k j : Kind} {r : ℕ} (a : ℕ) → k ≡ j → r ≡ writtenIn j a → r ≡ writtenIn k a
 written-at a p q = q ∙ sym (ap (λ (n : Kind). writtenIn n a) p)
 
--- past the map nothing is held
-pub held-past : (a : ℕ) → 0x378 ≤ a → heldOf a ≡ 0
-unfolding heldOf kindOf heldIn
-held-past a h =
+-- past the map nothing is mapped, and nothing is held
+pub kind-past : (a : ℕ) → 0x378 ≤ a → kindOf a ≡ Unmapped
+unfolding kindOf
+kind-past a h =
     simp (le-ltb a 0x020 (omega arith), le-ltb a 0x170 (omega arith), le-ltb a 0x300 (omega arith), le-ltb a 0x349 (omega arith), le-ltb a 0x358 (omega arith), le-ltb a 0x36E (omega arith), le-ltb a 0x370 (omega arith), le-ltb a 0x378 h)
+
+pub held-past : (a : ℕ) → 0x378 ≤ a → heldOf a ≡ 0
+unfolding heldOf heldIn
+held-past a h = rw (kind-past a h)
 
 pub fits-past : (a v : ℕ) → 0x10000 ≤ a → eqb v 0 ≡ cellFits a v
 unfolding cellFits

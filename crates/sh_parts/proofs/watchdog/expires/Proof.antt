@@ -1,0 +1,16 @@
+-- `sh_parts::watchdog::expires`: the same test.
+use borrow.Author.Tests.{lt-ltb, le-ltb, eq-eqb, ne-eqb}
+use Rattle.sh_parts.specs.Watchdog.{expiresOf}
+use Rattle.sh_parts.proofs.watchdog.expires.Statement.{statement}
+use Rattle.sh_parts.proofs.watchdog.expires.Tie as tie
+
+returns : tie.Need-returns
+unfolding expiresOf
+returns c = search (eq-eqb, ne-eqb)
+
+returns-2 : tie.Need-returns-2
+unfolding expiresOf
+returns-2 c = search (eq-eqb, ne-eqb)
+
+pub expires-spec : {M : Type 1} → statement M
+expires-spec = tie.close (tie.spec returns returns-2)
