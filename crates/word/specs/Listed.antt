@@ -18,18 +18,18 @@ listed w = isListed (decodeOf w)
 -- the first and the last word of each range that 01, "Instruction words", names
 abbrev pub ranges : List (ℕ × ℕ)
 ranges =
-    (0x0000, 0xBFFF) -- codes 0-23
-    ∷ (0xC000, 0xC7FF) -- CALL
-    ∷ (0xCB00, 0xCB7F) -- DAA
-    ∷ (0xCD00, 0xCD7F) -- DAS
-    ∷ (0xD000, 0xD0FF) -- RTNW
-    ∷ (0xD400, 0xD400) -- RTNI
-    ∷ (0xD800, 0xD800) -- HALT
-    ∷ (0xDC00, 0xDC00) -- STOP
-    ∷ (0xE000, 0xEFFF) -- JMP
-    ∷ (0xF000, 0xF000) -- SHR
-    ∷ (0xF7FF, 0xF7FF) -- TJMP
-    ∷ (0xFFFF, 0xFFFF) -- NOP
+    (0x0000, 0xBFFF)  -- codes 0-23
+    ∷ (0xC000, 0xC7FF)  -- CALL
+    ∷ (0xCB00, 0xCB7F)  -- DAA
+    ∷ (0xCD00, 0xCD7F)  -- DAS
+    ∷ (0xD000, 0xD0FF)  -- RTNW
+    ∷ (0xD400, 0xD400)  -- RTNI
+    ∷ (0xD800, 0xD800)  -- HALT
+    ∷ (0xDC00, 0xDC00)  -- STOP
+    ∷ (0xE000, 0xEFFF)  -- JMP
+    ∷ (0xF000, 0xF000)  -- SHR
+    ∷ (0xF7FF, 0xF7FF)  -- TJMP
+    ∷ (0xFFFF, 0xFFFF)  -- NOP
     ∷ []
 
 -- the word lies in one of the ranges

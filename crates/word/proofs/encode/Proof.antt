@@ -4,7 +4,7 @@ use mathlib.Core.Bool.{true, false}
 use native.Mathlib.Omega.{arith}
 use borrow.Author.Needs.{needs}
 use Rattle.word.specs.Word.{encodeOf, inRange}
-use Rattle.word.proofs.Laws.{word-fits}
+use Rattle.word.proofs.Fits.{word-fits}
 use Rattle.word.proofs.encode.Statement.{statement}
 use Rattle.word.proofs.encode.Tie as tie
 
