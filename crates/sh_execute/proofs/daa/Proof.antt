@@ -1,0 +1,35 @@
+-- `sh_execute::daa`: four calls, as the definition has them.
+use Rattle.sh_execute.specs.Execute.{daaOf}
+use borrow.Author.Needs.{needs}
+use Rattle.sh_execute.proofs.daa.Statement.{statement}
+use Rattle.sh_execute.proofs.daa.Tie as tie
+
+target-requires : tie.Need-target-requires
+target-requires c κs = search needs
+
+read-requires : tie.Need-read-requires
+read-requires c κs = search needs
+
+decimal-added-requires : tie.Need-decimal-added-requires
+decimal-added-requires c κs = search needs
+
+put-requires : tie.Need-put-requires
+put-requires c κs = search needs
+
+same-length : tie.Need-same-length
+same-length c = search needs
+
+returns : tie.Need-returns
+unfolding daaOf
+returns c = cc
+
+pub daa-spec : {M : Type 1} → statement M
+daa-spec =
+    tie.close
+    (tie.spec
+    target-requires
+    read-requires
+    decimal-added-requires
+    put-requires
+    same-length
+    returns)

@@ -1,0 +1,35 @@
+-- `sh_execute::das`: four calls, as the definition has them.
+use Rattle.sh_execute.specs.Execute.{dasOf}
+use borrow.Author.Needs.{needs}
+use Rattle.sh_execute.proofs.das.Statement.{statement}
+use Rattle.sh_execute.proofs.das.Tie as tie
+
+target-requires : tie.Need-target-requires
+target-requires c κs = search needs
+
+read-requires : tie.Need-read-requires
+read-requires c κs = search needs
+
+decimal-subtracted-requires : tie.Need-decimal-subtracted-requires
+decimal-subtracted-requires c κs = search needs
+
+put-requires : tie.Need-put-requires
+put-requires c κs = search needs
+
+same-length : tie.Need-same-length
+same-length c = search needs
+
+returns : tie.Need-returns
+unfolding dasOf
+returns c = cc
+
+pub das-spec : {M : Type 1} → statement M
+das-spec =
+    tie.close
+    (tie.spec
+    target-requires
+    read-requires
+    decimal-subtracted-requires
+    put-requires
+    same-length
+    returns)
