@@ -299,7 +299,7 @@ static void conclude(struct second_machine *m, unsigned address, uint8_t result,
         write_cell(m, address, result);
 }
 
-static bool execute(struct second_machine *m, uint16_t word)
+static inline bool execute(struct second_machine *m, uint16_t word)
 {
     unsigned pc = m->pc;
     unsigned next = (pc & PAGE) | ((pc + 1) & 0x7FF);
@@ -483,7 +483,7 @@ bool second_execute(struct second_machine *machine, uint16_t word)
 
 /* ---- Events ---- */
 
-static uint16_t word_at(const uint8_t *program, unsigned address)
+static uint16_t word_at(const uint8_t *program, size_t address)
 {
     return (uint16_t)(program[2 * address] << 8 | program[2 * address + 1]);
 }
@@ -511,7 +511,7 @@ static void land_read(struct second_machine *m, uint16_t word)
 }
 
 /* Answers false, with nothing changed, where the cycle would execute an unlisted word. */
-static bool cycle(struct second_machine *m, const uint8_t *program)
+static inline bool cycle(struct second_machine *m, const uint8_t *program)
 {
     unsigned requests = m->cell[IE] & m->cell[IRQ];
     uint8_t was_pending = m->pending;
@@ -542,11 +542,10 @@ static bool is_known(uint8_t event)
     return event <= EVENT_RESET || (0x10 <= event && event <= 0x4F);
 }
 
-static bool apply(struct second_machine *m, const uint8_t *program, uint8_t event)
+/* Every event but the cycle: none of these can be refused. */
+static void apply_other(struct second_machine *m, uint8_t event)
 {
     switch (event) {
-    case EVENT_CYCLE:
-        return cycle(m, program);
     case EVENT_BASE:
         pulse_base(m);
         break;
@@ -560,18 +559,21 @@ static bool apply(struct second_machine *m, const uint8_t *program, uint8_t even
         change_pins(m, (event >> 4) - 1u, event & 15);
         break;
     }
-    return true;
 }
 
 enum second_reason second_run_machine(struct second_machine *machine, const uint8_t *program,
                                       const uint8_t *script, size_t script_len, uint32_t stop, uint64_t *events)
 {
     for (size_t done = 0; done < script_len; done++) {
-        if (!apply(machine, program, script[done])) {
+        if (script[done] != EVENT_CYCLE) {
+            apply_other(machine, script[done]);
+            continue;
+        }
+        if (!cycle(machine, program)) {
             *events = done;
             return SECOND_AT_UNLISTED;
         }
-        if (script[done] == EVENT_CYCLE && machine->pc == stop) {
+        if (machine->pc == stop) {
             *events = done + 1;
             return SECOND_AT_ADDRESS;
         }
@@ -746,7 +748,9 @@ uint32_t second_step(const uint8_t *program, size_t program_len, uint8_t *memory
         return refusal;
     if (!is_known(event))
         return answer(value, UNKNOWN_EVENT, 0);
-    if (!apply(&machine, program, event))
+    if (event != EVENT_CYCLE)
+        apply_other(&machine, event);
+    else if (!cycle(&machine, program))
         return answer(value, UNLISTED, machine.pc);
     second_pack(&machine, memory, record);
     return answer(value, DONE, 0);
