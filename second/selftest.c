@@ -1658,7 +1658,7 @@ static void memory_refusals(void)
 {
     static const struct {
         unsigned address;
-        uint8_t highest; /* the bits the cell may hold */
+        uint8_t highest; /* all the bits the cell may hold */
     } cells[] = {
         {0x000, 15}, {0x001, 15}, {0x002, 15}, {0x003, 15}, {0x004, 0},  {0x005, 0},  {0x006, 0},  {0x007, 7},
         {0x008, 15}, {0x00B, 15}, {0x00D, 15}, {0x00E, 15}, {0x00F, 0},  {0x010, 15}, {0x011, 7},  {0x012, 7},
@@ -1669,14 +1669,16 @@ static void memory_refusals(void)
 
     from("01, What is lent, Memory; What comes back, 3");
     for (size_t at = 0; at < sizeof cells / sizeof cells[0]; at++) {
+        int misjudged = 0;
+
         for (unsigned byte = 0; byte < 256; byte++) {
             bool good = (byte & ~(unsigned)cells[at].highest) == 0;
 
             fresh();
             memory[cells[at].address] = (uint8_t)byte;
-            is("a byte", step(PIN_D), good ? 0 : 3);
-            is("its address", (long long)told, good ? 0 : cells[at].address);
+            misjudged += step(PIN_D) != (good ? 0 : 3) || told != (good ? 0 : cells[at].address);
         }
+        is("bytes misjudged at a cell", misjudged, 0);
     }
     fresh();
     memory[0x3FF] = 1;
@@ -1944,7 +1946,8 @@ static void writers(void)
 
 static uint32_t level_of(unsigned high, unsigned low, unsigned ground, size_t length, int32_t *level)
 {
-    const uint8_t body[6] = {(uint8_t)(high >> 8), (uint8_t)high, (uint8_t)(low >> 8), (uint8_t)low, (uint8_t)ground, 0};
+    const uint8_t body[6] = {(uint8_t)(high >> 8), (uint8_t)high, (uint8_t)(low >> 8), (uint8_t)low,
+                             (uint8_t)ground, 0};
 
     return second_level(memory, 1024, body, length, level, &told);
 }
@@ -2059,10 +2062,19 @@ static void pictures(void)
     is("length", (long long)told, 1025);
 }
 
+static uint64_t bodies[6]; /* offset and length of wiring, level, program */
+
+static uint32_t read_book(const uint8_t *book, uint64_t length)
+{
+    return second_book_read(book, length, &bodies[0], &bodies[1], &bodies[2], &bodies[3], &bodies[4], &bodies[5],
+                            &told);
+}
+
 static void books(void)
 {
     /* 3; kind 1 at 16, 8,192 bytes; kind 2 at 8,208 ($2010), 6 bytes; kind 3 at 8,214 ($2016), 5 bytes. */
-    static const uint8_t contents[16] = {3, 1, 0x00, 0x10, 0x20, 0x00, 2, 0x20, 0x10, 0x00, 0x06, 3, 0x20, 0x16, 0x00, 0x05};
+    static const uint8_t contents[16] = {3, 1, 0x00, 0x10, 0x20, 0x00, 2, 0x20, 0x10, 0x00, 0x06,
+                                         3, 0x20, 0x16, 0x00, 0x05};
     static const uint8_t wiring[6] = {0x03, 0x01, 1, 0x03, 0x47, 2};
     static const uint8_t level[5] = {0x00, 0x20, 0x03, 0x00, 63};
     static const uint8_t bad_wiring[6] = {0x03, 0x01, 1, 0x03, 0x47, 4};
@@ -2070,7 +2082,6 @@ static void books(void)
     static uint8_t book[9000], spoiled[9000];
     const uint64_t length = 16 + 8192 + 6 + 5;
     uint64_t count = 99;
-    uint64_t at[6] = {99, 99, 99, 99, 99, 99};
 
     from("01, Panel book: writing");
     fresh();
@@ -2086,39 +2097,39 @@ static void books(void)
     is("beyond", book[length], 0xEE);
 
     from("01, Panel book: reading");
-    is("done", second_book_read(book, length, &at[0], &at[1], &at[2], &at[3], &at[4], &at[5], &told), 0);
-    is("wiring", (long long)at[0], 8208);
-    is("wiring's length", (long long)at[1], 6);
-    is("level", (long long)at[2], 8214);
-    is("level's length", (long long)at[3], 5);
-    is("program", (long long)at[4], 16);
-    is("program's length", (long long)at[5], 8192);
+    is("done", read_book(book, length), 0);
+    is("wiring", (long long)bodies[0], 8208);
+    is("wiring's length", (long long)bodies[1], 6);
+    is("level", (long long)bodies[2], 8214);
+    is("level's length", (long long)bodies[3], 5);
+    is("program", (long long)bodies[4], 16);
+    is("program's length", (long long)bodies[5], 8192);
 
     from("01, What comes back, 10; reading 23");
     for (int byte = 0; byte < 16; byte++) {
         memcpy(spoiled, book, sizeof book);
         spoiled[byte] ^= 1;
-        at[0] = 99;
-        is("a contents byte", second_book_read(spoiled, length, &at[0], &at[1], &at[2], &at[3], &at[4], &at[5], &told), 10);
+        bodies[0] = 99;
+        is("a contents byte", read_book(spoiled, length), 10);
         is("value", (long long)told, 0);
-        is("outs are left", (long long)at[0], 99);
+        is("outs are left", (long long)bodies[0], 99);
     }
-    is("a byte less", second_book_read(book, length - 1, &at[0], &at[1], &at[2], &at[3], &at[4], &at[5], &told), 10);
-    is("a byte more", second_book_read(book, length + 1, &at[0], &at[1], &at[2], &at[3], &at[4], &at[5], &told), 10);
-    is("an element more", second_book_read(book, length + 3, &at[0], &at[1], &at[2], &at[3], &at[4], &at[5], &told), 10);
-    is("nothing", second_book_read(book, 0, &at[0], &at[1], &at[2], &at[3], &at[4], &at[5], &told), 10);
-    is("contents only", second_book_read(book, 16, &at[0], &at[1], &at[2], &at[3], &at[4], &at[5], &told), 10);
+    is("a byte less", read_book(book, length - 1), 10);
+    is("a byte more", read_book(book, length + 1), 10);
+    is("an element more", read_book(book, length + 3), 10);
+    is("nothing", read_book(book, 0), 10);
+    is("contents only", read_book(book, 16), 10);
 
     from("01, What comes back, 11: the lowest kind");
     memcpy(spoiled, book, sizeof book);
     spoiled[8214 + 4] = 64;
-    is("ground", second_book_read(spoiled, length, &at[0], &at[1], &at[2], &at[3], &at[4], &at[5], &told), 11);
+    is("ground", read_book(spoiled, length), 11);
     is("kind", (long long)told, 3);
     spoiled[8208 + 2] = 4;
-    is("both", second_book_read(spoiled, length, &at[0], &at[1], &at[2], &at[3], &at[4], &at[5], &told), 11);
+    is("both", read_book(spoiled, length), 11);
     is("kind", (long long)told, 2);
     spoiled[0] = 2;
-    is("10 before 11", second_book_read(spoiled, length, &at[0], &at[1], &at[2], &at[3], &at[4], &at[5], &told), 10);
+    is("10 before 11", read_book(spoiled, length), 10);
 
     from("01, Panel book: the writer answers 10 for a length, 11 for a body, 7 last");
     memset(book, 0xEE, sizeof book);
@@ -2154,7 +2165,8 @@ static unsigned any(unsigned below)
 static unsigned any_word(void)
 {
     static const uint8_t lively[] = {0x00, 0x01, 0x02, 0x03, 0x04, 0x05, 0x07, 0x08, 0x09, 0x0A, 0x0B, 0x0C, 0x0E, 0x0F,
-                                     0x10, 0x11, 0x12, 0x13, 0x14, 0x16, 0x17, 0x18, 0x1A, 0x1B, 0x1C, 0x1D, 0x1E, 0x20};
+                                     0x10, 0x11, 0x12, 0x13, 0x14, 0x16, 0x17, 0x18, 0x1A, 0x1B, 0x1C, 0x1D, 0x1E,
+                                     0x20};
     unsigned cell = lively[any(sizeof lively)];
 
     switch (any(8)) {
@@ -2235,7 +2247,8 @@ static void many_programs(void)
         run_answer = run(script, EVENTS, stop);
         wrong_reason += reason != step_reason || run_answer != (step_reason == 1 ? 6u : 0u);
         wrong_count += done_events != steps;
-        differ += memcmp(memory, memory_by_steps, sizeof memory) != 0 || memcmp(record, record_by_steps, sizeof record) != 0;
+        differ += memcmp(memory, memory_by_steps, sizeof memory) != 0
+                  || memcmp(record, record_by_steps, sizeof record) != 0;
     }
     is("runs that leave another state than their steps", differ, 0);
     is("runs with another reason", wrong_reason, 0);
