@@ -1,0 +1,2288 @@
+/* Worked cases for the second emulator. Every expected value was taken by hand from the documents; the words given to
+   from() name the place: "01" and "003" are the documents, "reading" a settled reading of 01. */
+#include "instruction.h"
+#include "search.h"
+#include "second.h"
+
+#include <stdio.h>
+#include <stdlib.h>
+#include <string.h>
+
+/* ---- Counting ---- */
+
+static unsigned long passed, failed;
+static const char *place = "";
+
+static void from(const char *document_and_part)
+{
+    place = document_and_part;
+}
+
+static void is(const char *what, long long got, long long wanted)
+{
+    if (got == wanted) {
+        passed++;
+        return;
+    }
+    failed++;
+    printf("FAILED %s: %s is %lld ($%llX), not %lld ($%llX)\n", place, what, got, (unsigned long long)got, wanted,
+           (unsigned long long)wanted);
+}
+
+/* ---- A desk with one machine on it ---- */
+
+static uint8_t program[8192], memory[1024], record[37];
+static uint64_t told; /* the value of the last call */
+
+/* Where each field of the record begins (01, What is lent: 37 bytes, fields in that order). */
+enum {
+    R_PC = 0, R_AC = 2, R_CY = 3, R_MODE = 4, R_STACK = 5, R_T0_PRESCALER = 21, R_T0_COUNTER = 23, R_T0_LOAD = 24,
+    R_BASE_PRESCALER = 25, R_BASE_COUNTER = 26, R_WATCHDOG = 27, R_PIN_A = 29, R_PIN_B = 30, R_PIN_C = 31,
+    R_PIN_D = 32, R_OPTIONS = 33, R_PENDING = 34, R_PENDING_ADDRESS = 35
+};
+enum { RUNNING = 0, IN_HALT = 1, IN_STOP = 2 };
+enum { CYCLE = 0x00, BASE_PULSE = 0x01, WATCHDOG_PULSE = 0x02, RESET_PIN = 0x03 };
+enum { PIN_A = 0x10, PIN_B = 0x20, PIN_C = 0x30, PIN_D = 0x40 };
+enum { NO_STOP = 4096 };
+
+static unsigned two(int at)
+{
+    return (unsigned)record[at] << 8 | record[at + 1];
+}
+
+static void set_two(int at, unsigned field)
+{
+    record[at] = (uint8_t)(field >> 8);
+    record[at + 1] = (uint8_t)field;
+}
+
+static unsigned stack_entry(int level)
+{
+    return two(R_STACK + 2 * level);
+}
+
+static void put(unsigned address, unsigned word)
+{
+    program[2 * address] = (uint8_t)(word >> 8);
+    program[2 * address + 1] = (uint8_t)word;
+}
+
+static unsigned made(enum mnemonic mnemonic, unsigned first, unsigned second)
+{
+    struct instruction instruction = {mnemonic, {first, second}};
+    uint16_t word = 0;
+    uint64_t value;
+
+    if (instruction_write(&instruction, &word, &value) != 0) {
+        printf("a case names a field out of range\n");
+        exit(EXIT_FAILURE);
+    }
+    return word;
+}
+
+static void fresh_with(unsigned options)
+{
+    memset(program, 0xFF, sizeof program);
+    memset(memory, 0xEE, sizeof memory);
+    memset(record, 0xEE, sizeof record);
+    if (second_fresh(memory, sizeof memory, record, sizeof record, options, &told) != 0) {
+        printf("no fresh machine\n");
+        exit(EXIT_FAILURE);
+    }
+}
+
+static void fresh(void)
+{
+    fresh_with(0);
+}
+
+static uint32_t step(uint8_t event)
+{
+    return second_step(program, sizeof program, memory, sizeof memory, record, sizeof record, event, &told);
+}
+
+/* Steps that the case takes for granted; a refusal is a failure of the case. */
+static void events(uint8_t event, int times)
+{
+    for (int done = 0; done < times; done++) {
+        uint32_t refusal = step(event);
+
+        if (refusal != 0)
+            is("refusal of an event", refusal, 0);
+    }
+}
+
+static uint32_t reason;
+static uint64_t done_events;
+
+static uint32_t run(const uint8_t *script, size_t length, uint32_t stop)
+{
+    reason = 99;
+    done_events = 99;
+    return second_run(program, sizeof program, memory, sizeof memory, record, sizeof record, script, length, stop,
+                      &reason, &done_events, &told);
+}
+
+/* ---- The twelve numbers ---- */
+
+static void twelve_numbers(void)
+{
+    struct instruction instruction;
+    static const uint8_t level_body[5] = {0x00, 0x20, 0x00, 0x21, 2};
+    uint8_t addresses[16];
+    uint64_t count = 0;
+    uint16_t word = 0;
+    int32_t level = 99;
+
+    from("01, Numbers 1");
+    fresh();
+    put(0, made(ADC, 0x020, 0));
+    memory[0x020] = 9;
+    record[R_AC] = 8;
+    record[R_CY] = 1;
+    events(CYCLE, 1);
+    is("AC", record[R_AC], 2);
+    is("CY", record[R_CY], 1);
+    is("the cell", memory[0x020], 9);
+
+    from("01, Numbers 2");
+    fresh();
+    put(0, made(SUB, 0x020, 0));
+    memory[0x020] = 3;
+    record[R_AC] = 5;
+    events(CYCLE, 1);
+    is("AC", record[R_AC], 14);
+    is("CY", record[R_CY], 0);
+
+    from("01, Numbers 3");
+    fresh();
+    put(0, made(SUB, 0x020, 0));
+    memory[0x020] = 5;
+    record[R_AC] = 5;
+    events(CYCLE, 1);
+    is("AC", record[R_AC], 0);
+    is("CY", record[R_CY], 1);
+
+    from("01, Numbers 4");
+    fresh();
+    put(0, made(SBIM, 0x20, 0));
+    memory[0x020] = 7;
+    events(CYCLE, 1);
+    is("the cell", memory[0x020], 7);
+    is("CY", record[R_CY], 1);
+
+    from("01, Numbers 5");
+    fresh();
+    put(0, made(DAA, 0x20, 0));
+    record[R_AC] = 12;
+    events(CYCLE, 1);
+    is("AC", record[R_AC], 2);
+    is("CY", record[R_CY], 1);
+    is("the cell", memory[0x020], 2);
+
+    from("01, Numbers 6");
+    fresh();
+    put(0, made(DAS, 0x20, 0));
+    record[R_AC] = 14;
+    events(CYCLE, 1);
+    is("AC", record[R_AC], 8);
+    is("CY", record[R_CY], 0);
+    is("the cell", memory[0x020], 8);
+
+    from("01, Numbers 7");
+    fresh();
+    set_two(R_PC, 0x7FF);
+    events(CYCLE, 1);
+    is("PC after $7FF", two(R_PC), 0x000);
+    set_two(R_PC, 0xFFF);
+    events(CYCLE, 1);
+    is("PC after $FFF", two(R_PC), 0x800);
+
+    from("01, Numbers 8");
+    fresh();
+    put(0xA34, 0xF7FF);
+    set_two(R_PC, 0xA34);
+    memory[0x00E] = 5;
+    record[R_AC] = 6;
+    events(CYCLE, 1);
+    is("PC", two(R_PC), 0xA56);
+
+    from("01, Numbers 9");
+    is("reading $CB7F", instruction_read(0xCB7F, &instruction, &told), 0);
+    is("its mnemonic", instruction.mnemonic, DAA);
+    is("its X", instruction.field[0], 0x7F);
+    is("reading $CB80", instruction_read(0xCB80, &instruction, &told), 6);
+    is("the word told", told, 0xCB80);
+    fresh();
+    put(0, 0xCB7F);
+    record[R_AC] = 4;
+    events(CYCLE, 1);
+    is("$07F after $CB7F", memory[0x07F], 4);
+    put(1, 0xCB80);
+    is("executing $CB80", step(CYCLE), 6);
+    is("the address told", told, 1);
+
+    from("01, Numbers 10");
+    instruction = (struct instruction){RTNW, {4, 2}};
+    is("writing RTNW 4,2", instruction_write(&instruction, &word, &told), 0);
+    is("the word", word, 0xD042);
+    fresh();
+    put(0, 0xD042);
+    events(CYCLE, 1);
+    is("TBR", memory[0x00E], 4);
+    is("AC", record[R_AC], 2);
+
+    from("01, Numbers 11");
+    fresh();
+    memory[0x020] = 1;
+    memory[0x021] = 0;
+    is("level call", second_level(memory, 1024, level_body, 5, &level, &told), 0);
+    is("level of digits 1,0", level, 6);
+    memory[0x020] = 0;
+    memory[0x021] = 1;
+    is("level call", second_level(memory, 1024, level_body, 5, &level, &told), 0);
+    is("level of digits 0,1", level, -1);
+
+    from("01, Numbers 12");
+    fresh();
+    put(0x010, 0x4820);
+    put(0x011, 0x48A0);
+    put(0x012, 0x3C0F);
+    put(0x013, 0x3CA0);
+    put(0x014, 0x77A0);
+    memset(addresses, 0xEE, sizeof addresses);
+    is("list", second_list(program, 8192, 0x020, addresses, sizeof addresses, &count, &told), 0);
+    is("bytes", (long long)count, 4);
+    is("first, high byte", addresses[0], 0x00);
+    is("first, low byte", addresses[1], 0x11);
+    is("second, high byte", addresses[2], 0x00);
+    is("second, low byte", addresses[3], 0x12);
+    is("the byte beyond", addresses[4], 0xEE);
+}
+
+/* ---- Words ---- */
+
+static void words(void)
+{
+    unsigned listed = 0;
+    unsigned again_wrong = 0;
+    unsigned execute_wrong = 0;
+    struct second_machine plain;
+
+    from("01, Instruction words");
+    fresh();
+    second_unpack(&plain, memory, record);
+    for (uint32_t word = 0; word <= 0xFFFF; word++) {
+        struct instruction instruction;
+        struct second_machine machine = plain;
+        uint16_t again = 0;
+        uint64_t value;
+        bool is_listed = instruction_read((uint16_t)word, &instruction, &value) == 0;
+
+        if (second_execute(&machine, (uint16_t)word) != is_listed)
+            execute_wrong++;
+        if (!is_listed)
+            continue;
+        listed++;
+        if (instruction_write(&instruction, &again, &value) != 0 || again != word)
+            again_wrong++;
+    }
+    is("listed words", listed, 55814);
+    is("words not written again as read", again_wrong, 0);
+    is("words that execute though unlisted, or the reverse", execute_wrong, 0);
+
+    static const struct {
+        uint16_t word;
+        enum mnemonic mnemonic;
+        unsigned first, second;
+    } read[] = {
+        {0x0000, ADC, 0x000, 0},  {0x0400, ADCM, 0x000, 0}, {0x0BFF, ADD, 0x3FF, 0},   {0x0C80, ADDM, 0x080, 0},
+        {0x1020, SBC, 0x020, 0},  {0x1420, SBCM, 0x020, 0}, {0x1820, SUB, 0x020, 0},   {0x1C20, SUBM, 0x020, 0},
+        {0x2000, EOR, 0x000, 0},  {0x2400, EORM, 0x000, 0}, {0x2800, OR, 0x000, 0},    {0x2C00, ORM, 0x000, 0},
+        {0x3000, AND, 0x000, 0},  {0x3400, ANDM, 0x000, 0}, {0x3B00, LDA, 0x300, 0},   {0x3F77, STA, 0x377, 0},
+        {0x4081, ADI, 0x01, 1},   {0x4FFF, ADIM, 0x7F, 15}, {0x5000, SBI, 0x00, 0},    {0x5C20, SBIM, 0x20, 8},
+        {0x6480, EORIM, 0x00, 9}, {0x6880, ORIM, 0x00, 1},  {0x77A0, ANDIM, 0x20, 15}, {0x7F80, LDI, 0x00, 15},
+        {0x8001, BNZ, 0x001, 0},  {0x8FFF, BNC, 0x7FF, 0},  {0x9000, BAZ, 0x000, 0},   {0x9800, BC, 0x000, 0},
+        {0xA000, BA0, 0x000, 0},  {0xA800, BA1, 0x000, 0},  {0xB000, BA2, 0x000, 0},   {0xB800, BA3, 0x000, 0},
+        {0xC000, CALL, 0x000, 0}, {0xC7FF, CALL, 0x7FF, 0}, {0xCB00, DAA, 0x00, 0},    {0xCD00, DAS, 0x00, 0},
+        {0xCD7F, DAS, 0x7F, 0},   {0xD000, RTNW, 0, 0},     {0xD0FF, RTNW, 15, 15},    {0xD400, RTNI, 0, 0},
+        {0xD800, HALT, 0, 0},     {0xDC00, STOP, 0, 0},     {0xE000, JMP, 0x000, 0},   {0xEFFF, JMP, 0xFFF, 0},
+        {0xF000, SHR, 0, 0},      {0xF7FF, TJMP, 0, 0},     {0xFFFF, NOP, 0, 0},
+    };
+    from("003, section 17");
+    for (size_t at = 0; at < sizeof read / sizeof read[0]; at++) {
+        struct instruction instruction = {MNEMONICS, {99, 99}};
+
+        is("reading a listed word", instruction_read(read[at].word, &instruction, &told), 0);
+        is("mnemonic", instruction.mnemonic, read[at].mnemonic);
+        is("first field", instruction.field[0], read[at].first);
+        is("second field", instruction.field[1], read[at].second);
+    }
+
+    static const uint16_t unlisted[] = {0xC800, 0xCAFF, 0xCB80, 0xCCFF, 0xCD80, 0xCFFF, 0xD100, 0xD3FF, 0xD401, 0xD7FF,
+                                        0xD801, 0xDBFF, 0xDC01, 0xDFFF, 0xF001, 0xF7FE, 0xF800, 0xFFFE};
+    from("01, What comes back, 6 of reading");
+    for (size_t at = 0; at < sizeof unlisted / sizeof unlisted[0]; at++) {
+        struct instruction instruction;
+
+        is("reading an unlisted word", instruction_read(unlisted[at], &instruction, &told), 6);
+        is("the word told", told, unlisted[at]);
+    }
+
+    static const struct {
+        enum mnemonic mnemonic;
+        unsigned first, second;
+        uint32_t answer;
+    } fields[] = {
+        {ADC, 1023, 0, 0},  {ADC, 1024, 0, 13},  {STA, 1024, 0, 13},  {ADIM, 127, 15, 0}, {ADIM, 128, 0, 13},
+        {LDI, 0, 16, 13},   {BNZ, 2047, 0, 0},   {BNZ, 2048, 0, 13},  {CALL, 2047, 0, 0}, {CALL, 2048, 0, 13},
+        {JMP, 4095, 0, 0},  {JMP, 4096, 0, 13},  {DAA, 127, 0, 0},    {DAA, 128, 0, 13},  {DAS, 128, 0, 13},
+        {RTNW, 15, 15, 0},  {RTNW, 16, 0, 13},   {RTNW, 0, 16, 13},
+    };
+    from("01, What comes back, 13");
+    for (size_t at = 0; at < sizeof fields / sizeof fields[0]; at++) {
+        struct instruction instruction = {fields[at].mnemonic, {fields[at].first, fields[at].second}};
+        uint16_t word = 0xABCD;
+
+        told = 99;
+        is("writing", instruction_write(&instruction, &word, &told), fields[at].answer);
+        is("value", (long long)told, 0);
+        if (fields[at].answer != 0)
+            is("the word is left", word, 0xABCD);
+    }
+}
+
+/* ---- One instruction ---- */
+
+static void arithmetic(void)
+{
+    static const struct {
+        const char *what;
+        enum mnemonic mnemonic;
+        unsigned immediate;
+        uint8_t cell, ac, cy;
+        uint8_t then_ac, then_cy, then_cell;
+    } cases[] = {
+        {"ADC 7+8+0", ADC, 0, 7, 8, 0, 15, 0, 7},
+        {"ADC 9+8+1", ADC, 0, 9, 8, 1, 2, 1, 9},
+        {"ADCM 15+0+1", ADCM, 0, 15, 0, 1, 0, 1, 0},
+        {"ADD 9+8, CY not added", ADD, 0, 9, 8, 1, 1, 1, 9},
+        {"ADD 3+4 clears CY", ADD, 0, 3, 4, 1, 7, 0, 3},
+        {"ADDM 10+10", ADDM, 0, 10, 10, 0, 4, 1, 4},
+        {"SBC 5+12+1", SBC, 0, 5, 3, 1, 2, 1, 5},
+        {"SBC 5+12+0", SBC, 0, 5, 3, 0, 1, 1, 5},
+        {"SBC 3+12+0", SBC, 0, 3, 3, 0, 15, 0, 3},
+        {"SBCM 0+0+0", SBCM, 0, 0, 15, 0, 0, 0, 0},
+        {"SBCM 15+0+1", SBCM, 0, 15, 15, 1, 0, 1, 0},
+        {"SUB 3-5", SUB, 0, 3, 5, 1, 14, 0, 3},
+        {"SUBM 9-4", SUBM, 0, 9, 4, 0, 5, 1, 5},
+        {"SUBM 0-1", SUBM, 0, 0, 1, 1, 15, 0, 15},
+        {"EOR 12,10 keeps CY 1", EOR, 0, 12, 10, 1, 6, 1, 12},
+        {"EORM 15,1 keeps CY 0", EORM, 0, 15, 1, 0, 14, 0, 14},
+        {"OR 8,5", OR, 0, 8, 5, 1, 13, 1, 8},
+        {"ORM 2,4", ORM, 0, 2, 4, 0, 6, 0, 6},
+        {"AND 14,7", AND, 0, 14, 7, 1, 6, 1, 14},
+        {"ANDM 9,12", ANDM, 0, 9, 12, 0, 8, 0, 8},
+        {"LDA 11", LDA, 0, 11, 2, 1, 11, 1, 11},
+        {"STA 6", STA, 0, 11, 6, 0, 6, 0, 6},
+        {"ADI 14+5", ADI, 5, 14, 1, 0, 3, 1, 14},
+        {"ADIM 8+7", ADIM, 7, 8, 9, 1, 15, 0, 15},
+        {"SBI 4-6", SBI, 6, 4, 9, 1, 14, 0, 4},
+        {"SBIM 10-3", SBIM, 3, 10, 0, 0, 7, 1, 7},
+        {"EORIM 5,15", EORIM, 15, 5, 0, 1, 10, 1, 10},
+        {"ORIM 1,8", ORIM, 8, 1, 0, 0, 9, 0, 9},
+        {"ANDIM 13,6", ANDIM, 6, 13, 0, 1, 4, 1, 4},
+        {"LDI 9 sets AC too", LDI, 9, 3, 1, 1, 9, 1, 9},
+        {"DAA 5, no change", DAA, 0, 1, 5, 0, 5, 0, 5},
+        {"DAA 9, no change", DAA, 0, 1, 9, 0, 9, 0, 9},
+        {"DAA 10", DAA, 0, 1, 10, 0, 0, 1, 0},
+        {"DAA 2 with CY", DAA, 0, 1, 2, 1, 8, 1, 8},
+        {"DAA 15 with CY", DAA, 0, 1, 15, 1, 5, 1, 5},
+        {"DAS 3 with CY, no change", DAS, 0, 1, 3, 1, 3, 1, 3},
+        {"DAS 12 with CY, no change", DAS, 0, 1, 12, 1, 12, 1, 12},
+        {"DAS 0 without CY", DAS, 0, 1, 0, 0, 10, 0, 10},
+        {"DAS 6 without CY", DAS, 0, 1, 6, 0, 0, 0, 0},
+        {"SHR 11", SHR, 0, 1, 11, 0, 5, 1, 1},
+        {"SHR 8", SHR, 0, 1, 8, 1, 4, 0, 1},
+        {"NOP", NOP, 0, 1, 13, 1, 13, 1, 1},
+    };
+
+    from("01, One instruction; 003, section 17");
+    for (size_t at = 0; at < sizeof cases / sizeof cases[0]; at++) {
+        bool bare = instruction_shape(cases[at].mnemonic) == SHAPE_BARE;
+
+        fresh();
+        put(0, made(cases[at].mnemonic, bare ? 0 : 0x20, cases[at].immediate));
+        memory[0x020] = cases[at].cell;
+        record[R_AC] = cases[at].ac;
+        record[R_CY] = cases[at].cy;
+        events(CYCLE, 1);
+        is(cases[at].what, record[R_AC], cases[at].then_ac);
+        is(cases[at].what, record[R_CY], cases[at].then_cy);
+        is(cases[at].what, memory[0x020], cases[at].then_cell);
+        is("PC", two(R_PC), 1);
+    }
+}
+
+static void branches(void)
+{
+    static const struct {
+        enum mnemonic mnemonic;
+        uint8_t ac, cy;
+        bool taken;
+    } cases[] = {
+        {BNZ, 1, 0, true},  {BNZ, 0, 1, false},  {BAZ, 0, 0, true},  {BAZ, 8, 0, false}, {BC, 0, 1, true},
+        {BC, 15, 0, false}, {BNC, 0, 0, true},   {BNC, 0, 1, false}, {BA0, 1, 0, true},  {BA0, 14, 0, false},
+        {BA1, 2, 0, true},  {BA1, 13, 0, false}, {BA2, 4, 0, true},  {BA2, 11, 0, false}, {BA3, 8, 0, true},
+        {BA3, 7, 0, false},
+    };
+
+    from("003, section 17, Control; 01, One instruction");
+    for (size_t at = 0; at < sizeof cases / sizeof cases[0]; at++) {
+        fresh();
+        put(0x123, made(cases[at].mnemonic, 0x456, 0));
+        put(0xFFF, made(cases[at].mnemonic, 0x456, 0));
+        set_two(R_PC, 0x123);
+        record[R_AC] = cases[at].ac;
+        record[R_CY] = cases[at].cy;
+        events(CYCLE, 1);
+        is("branch in page 0", two(R_PC), cases[at].taken ? 0x456 : 0x124);
+        set_two(R_PC, 0xFFF);
+        events(CYCLE, 1);
+        is("branch keeps PC11", two(R_PC), cases[at].taken ? 0xC56 : 0x800);
+        is("AC is left", record[R_AC], cases[at].ac);
+        is("CY is left", record[R_CY], cases[at].cy);
+    }
+
+    from("01, One instruction, JMP sets all 12 bits");
+    fresh();
+    put(0x900, made(JMP, 0x123, 0));
+    put(0x123, made(JMP, 0xABC, 0));
+    set_two(R_PC, 0x900);
+    events(CYCLE, 1);
+    is("to page 0", two(R_PC), 0x123);
+    events(CYCLE, 1);
+    is("to page 1", two(R_PC), 0xABC);
+
+    from("01, One instruction, TJMP: its own PC11-PC8, pushes nothing");
+    fresh();
+    put(0x4FF, 0xF7FF);
+    set_two(R_PC, 0x4FF);
+    memory[0x00E] = 0xA;
+    record[R_AC] = 3;
+    events(CYCLE, 1);
+    is("PC at a page's end", two(R_PC), 0x4A3);
+    is("stack", stack_entry(0), 0);
+    is("TBR is left", memory[0x00E], 0xA);
+}
+
+static void stack(void)
+{
+    from("01, One instruction, CALL pushes CY and PC+1, keeps PC11");
+    fresh();
+    put(0xFFF, made(CALL, 0x010, 0));
+    set_two(R_PC, 0xFFF);
+    record[R_CY] = 1;
+    set_two(R_STACK, 0x0ABC);
+    events(CYCLE, 1);
+    is("PC", two(R_PC), 0x810);
+    is("newest: 4096 + $800", stack_entry(0), 0x1800);
+    is("the one before", stack_entry(1), 0x0ABC);
+    is("CY is left", record[R_CY], 1);
+
+    from("003, 1.2; 01, One instruction: RTNW leaves CY and sets TBR and AC");
+    put(0x810, made(RTNW, 9, 5));
+    record[R_CY] = 0;
+    events(CYCLE, 1);
+    is("PC", two(R_PC), 0x800);
+    is("CY", record[R_CY], 0);
+    is("TBR", memory[0x00E], 9);
+    is("AC", record[R_AC], 5);
+    is("newest", stack_entry(0), 0x0ABC);
+
+    from("01, One instruction: RTNI restores CY");
+    put(0x800, made(RTNI, 0, 0));
+    set_two(R_STACK, 0x1ABC);
+    events(CYCLE, 1);
+    is("PC", two(R_PC), 0xABC);
+    is("CY", record[R_CY], 1);
+    is("AC is left", record[R_AC], 5);
+
+    from("01, One instruction: 0 enters at the bottom");
+    fresh();
+    for (int level = 0; level < 8; level++)
+        set_two(R_STACK + 2 * level, 0x1111);
+    put(0, made(RTNI, 0, 0));
+    events(CYCLE, 1);
+    is("the seventh", stack_entry(6), 0x1111);
+    is("the bottom", stack_entry(7), 0);
+
+    /* Calls from $000, $010, ... $080 push $001, $011, ... $081; the ninth drops $001. */
+    from("003, 1.6 note; 01, One instruction: a push on a full stack drops the oldest");
+    fresh();
+    for (unsigned depth = 0; depth < 9; depth++) {
+        put(0x10 * depth, made(CALL, 0x10 * (depth + 1), 0));
+        put(0x10 * depth + 1, made(RTNI, 0, 0));
+    }
+    put(0x090, made(RTNI, 0, 0));
+    events(CYCLE, 9);
+    is("PC nine deep", two(R_PC), 0x090);
+    is("newest", stack_entry(0), 0x081);
+    is("oldest", stack_entry(7), 0x011);
+    events(CYCLE, 8);
+    is("PC after eight returns", two(R_PC), 0x011);
+    is("the stack is empty", stack_entry(0), 0);
+    events(CYCLE, 1);
+    is("PC after the ninth return", two(R_PC), 0x000);
+
+    from("01, One instruction: interrupts push too");
+    fresh();
+    for (int level = 0; level < 8; level++)
+        set_two(R_STACK + 2 * level, 0x0100u + (unsigned)level);
+    memory[0x000] = 2;
+    memory[0x001] = 2;
+    set_two(R_PC, 0x345);
+    record[R_CY] = 1;
+    events(CYCLE, 1);
+    is("newest: 4096 + $345", stack_entry(0), 0x1345);
+    is("oldest left", stack_entry(7), 0x0106);
+}
+
+static void point_at(unsigned address)
+{
+    memory[0x010] = address & 15;
+    memory[0x011] = address >> 4 & 7;
+    memory[0x012] = address >> 7 & 7;
+}
+
+static void pointer(void)
+{
+    from("01, One instruction, $00F; 003, 1.5");
+    fresh();
+    memory[0x012] = 6;
+    memory[0x011] = 3;
+    memory[0x010] = 5;
+    memory[0x335] = 9; /* 128 x 6 + 16 x 3 + 5 */
+    put(0, made(LDA, 0x00F, 0));
+    put(1, made(ADIM, 0x0F, 2));
+    put(2, made(DAA, 0x0F, 0));
+    put(3, made(LDI, 0x0F, 4));
+    put(4, made(ADC, 0x00F, 0));
+    events(CYCLE, 1);
+    is("LDA", record[R_AC], 9);
+    events(CYCLE, 1);
+    is("ADIM", memory[0x335], 11);
+    events(CYCLE, 1);
+    is("DAA of AC 11", memory[0x335], 1);
+    events(CYCLE, 1);
+    is("LDI", memory[0x335], 4);
+    events(CYCLE, 1);
+    is("ADC 4+4+1", record[R_AC], 9);
+    is("$00F holds nothing", memory[0x00F], 0);
+
+    from("reading 9: only the whole address $00F");
+    fresh();
+    point_at(0x020);
+    put(0, made(STA, 0x08F, 0));
+    record[R_AC] = 7;
+    events(CYCLE, 1);
+    is("$08F", memory[0x08F], 7);
+    is("$020", memory[0x020], 0);
+
+    from("01, One instruction: the pointer at $00F reads 0 and ignores writes");
+    fresh();
+    point_at(0x00F);
+    put(0, made(LDA, 0x00F, 0));
+    put(1, made(ADIM, 0x0F, 3));
+    put(2, made(STA, 0x00F, 0));
+    record[R_AC] = 7;
+    events(CYCLE, 1);
+    is("LDA", record[R_AC], 0);
+    events(CYCLE, 1);
+    is("ADIM gives AC the result", record[R_AC], 3);
+    events(CYCLE, 1);
+    is("$00F", memory[0x00F], 0);
+
+    from("01, One instruction: the address is taken before any write");
+    fresh();
+    point_at(0x010);
+    put(0, made(ADIM, 0x0F, 5));
+    events(CYCLE, 1);
+    is("DPL", memory[0x010], 5);
+    is("$015", memory[0x015], 0);
+
+    from("reading 9: side effects of the cell pointed at");
+    fresh_with(1);
+    point_at(0x01E);
+    set_two(R_WATCHDOG, 17);
+    put(0, made(LDA, 0x00F, 0));
+    events(CYCLE, 1);
+    is("watchdog after a read of $01E", two(R_WATCHDOG), 4096);
+    point_at(0x01A);
+    memory[0x01B] = 2;
+    memory[0x01C] = 1;
+    put(1, made(LDI, 0x0F, 3));
+    events(CYCLE, 1);
+    is("pending after a write of $01A", record[R_PENDING], 1);
+    is("its address", two(R_PENDING_ADDRESS), 0x123);
+    point_at(0x008);
+    record[R_PIN_A] = 6;
+    put(2, made(LDA, 0x00F, 0));
+    events(CYCLE, 1);
+    is("port A's pins", record[R_AC], 6);
+    point_at(0x005);
+    put(3, made(LDI, 0x0F, 8));
+    events(CYCLE, 1);
+    is("Timer0's counter", record[R_T0_COUNTER], 0x80);
+}
+
+/* ---- Cells ---- */
+
+static void cells(void)
+{
+    static const struct {
+        unsigned address;
+        uint8_t kept;
+    } written[] = {
+        {0x000, 15}, {0x001, 15}, {0x002, 15}, {0x003, 15}, {0x004, 0},  {0x005, 0},  {0x006, 0},  {0x007, 7},
+        {0x008, 15}, {0x009, 15}, {0x00A, 15}, {0x00B, 15}, {0x00C, 12}, {0x00D, 15}, {0x00E, 15}, {0x010, 15},
+        {0x011, 7},  {0x012, 7},  {0x013, 15}, {0x014, 11}, {0x015, 15}, {0x016, 15}, {0x017, 15}, {0x018, 15},
+        {0x019, 15}, {0x01A, 15}, {0x01B, 15}, {0x01C, 15}, {0x01D, 15}, {0x01E, 7},  {0x01F, 0},  {0x020, 15},
+        {0x16F, 15}, {0x170, 0},  {0x1FF, 0},  {0x2FF, 0},  {0x300, 15}, {0x348, 15}, {0x349, 0},  {0x357, 0},
+        {0x358, 15}, {0x36D, 15}, {0x36E, 0},  {0x36F, 0},  {0x370, 15}, {0x373, 15}, {0x377, 15}, {0x378, 0},
+        {0x3FF, 0},
+    };
+
+    from("01, What is lent, Memory; One instruction");
+    for (size_t at = 0; at < sizeof written / sizeof written[0]; at++) {
+        uint8_t before[1024];
+        int others = 0;
+
+        fresh();
+        put(0, made(STA, written[at].address, 0));
+        record[R_AC] = 15;
+        memcpy(before, memory, sizeof before);
+        events(CYCLE, 1);
+        is("what a cell keeps of 15", memory[written[at].address], written[at].kept);
+        for (unsigned address = 0; address < 1024; address++)
+            others += address != written[at].address && memory[address] != before[address];
+        is("other cells changed", others, 0);
+    }
+
+    from("01, One instruction: $370-$377 read 0");
+    fresh();
+    memory[0x371] = 9;
+    put(0, made(LDA, 0x371, 0));
+    put(1, made(ADDM, 0x371, 0));
+    record[R_AC] = 5;
+    events(CYCLE, 1);
+    is("LDA", record[R_AC], 0);
+    record[R_AC] = 5;
+    events(CYCLE, 1);
+    is("ADDM 0+5", memory[0x371], 5);
+
+    from("01, What is lent: unmapped reads 0");
+    fresh();
+    put(0, made(LDA, 0x2AB, 0));
+    record[R_AC] = 5;
+    events(CYCLE, 1);
+    is("LDA", record[R_AC], 0);
+
+    from("reading 10: AC gets the full result");
+    fresh();
+    put(0, made(LDI, 0x07, 13));
+    events(CYCLE, 1);
+    is("AC", record[R_AC], 13);
+    is("$007", memory[0x007], 5);
+
+    from("01, One instruction: $00C bits 0-1 and $01E bit 3 ignore writes");
+    fresh_with(2 | 1); /* BD0 = 1, BD1 = 0 */
+    is("$00C fresh", memory[0x00C], 1);
+    put(0, made(LDI, 0x0C, 0xA));
+    put(1, made(LDI, 0x1E, 0x5));
+    memory[0x01E] = 8;
+    events(CYCLE, 1);
+    is("$00C", memory[0x00C], 0x9);
+    events(CYCLE, 1);
+    is("$01E keeps WDF", memory[0x01E], 0xD);
+    is("watchdog at its new period", two(R_WATCHDOG), 16);
+
+    from("01, Writing $01E; reading 11: also with the watchdog off");
+    fresh();
+    put(0, made(LDI, 0x1E, 0xF));
+    put(1, made(LDI, 0x1E, 3));
+    put(2, made(ADI, 0x1E, 0));
+    events(CYCLE, 1);
+    is("WDF is not set by a write", memory[0x01E], 7);
+    is("watchdog", two(R_WATCHDOG), 1);
+    events(CYCLE, 1);
+    is("watchdog", two(R_WATCHDOG), 128);
+    set_two(R_WATCHDOG, 5);
+    events(CYCLE, 1);
+    is("watchdog after a read", two(R_WATCHDOG), 128);
+    is("AC of the read", record[R_AC], 3);
+}
+
+static void ports(void)
+{
+    from("01, One instruction, HOUSE: pin where the control bit is 0, latch where 1");
+    for (unsigned port = 0; port < 4; port++) {
+        fresh();
+        put(0, made(LDA, 0x008 + port, 0));
+        put(1, made(LDI, 0x08 + port, 0x9));
+        put(2, made(ORIM, 0x08 + port, 0x0));
+        memory[0x008 + port] = 0xC; /* 1100 */
+        memory[0x016 + port] = 0xA; /* 1010 */
+        record[R_PIN_A + port] = 0x5; /* 0101 */
+        events(CYCLE, 1);
+        is("mixed read: 1 from the latch, 1 from the pin, 0, 1", record[R_AC], 0xD);
+        events(CYCLE, 1);
+        is("a write goes to the latch", memory[0x008 + port], 0x9);
+        is("and not to the pins", record[R_PIN_A + port], 0x5);
+        events(CYCLE, 1);
+        is("a memory form writes what it read: 1101", memory[0x008 + port], 0xD);
+    }
+}
+
+/* ---- Timer0 ---- */
+
+static void timer0(void)
+{
+    static const unsigned ratio[7] = {2048, 512, 128, 32, 8, 4, 2};
+
+    from("003, table 1; 01, Timer0: ratios");
+    for (uint8_t mode = 0; mode < 7; mode++) {
+        fresh();
+        memory[0x002] = mode;
+        set_two(R_T0_PRESCALER, ratio[mode] - 2);
+        record[R_T0_COUNTER] = 5;
+        events(CYCLE, 1);
+        is("prescaler", two(R_T0_PRESCALER), ratio[mode] - 1);
+        is("counter", record[R_T0_COUNTER], 5);
+        events(CYCLE, 1);
+        is("prescaler", two(R_T0_PRESCALER), 0);
+        is("counter", record[R_T0_COUNTER], 6);
+        is("no request", memory[0x001], 0);
+    }
+
+    from("003, 7.1; 01, Writing $004, $005, $002 and Timer0: reload");
+    fresh();
+    put(0, made(LDI, 0x04, 0xC));
+    put(1, made(LDI, 0x05, 0xF));
+    put(2, made(LDI, 0x02, 0xE)); /* ratio 2, reload */
+    events(CYCLE, 1);
+    is("load after $004", record[R_T0_LOAD], 0x0C);
+    is("counter after $004", record[R_T0_COUNTER], 0);
+    is("prescaler", two(R_T0_PRESCALER), 1);
+    events(CYCLE, 1);
+    is("load after $005", record[R_T0_LOAD], 0xFC);
+    is("counter after $005", record[R_T0_COUNTER], 0xFC);
+    is("prescaler", two(R_T0_PRESCALER), 2);
+    from("reading 7: after a cycle that writes $002 the prescaler is 1");
+    events(CYCLE, 1);
+    is("prescaler", two(R_T0_PRESCALER), 1);
+    events(CYCLE, 1);
+    is("counter", record[R_T0_COUNTER], 0xFD);
+    events(CYCLE, 5);
+    is("counter", record[R_T0_COUNTER], 0xFF);
+    is("no request yet", memory[0x001], 0);
+    events(CYCLE, 1);
+    is("reloaded", record[R_T0_COUNTER], 0xFC);
+    is("IRQT0", memory[0x001], 4);
+
+    from("01, Timer0: without reload 0");
+    fresh();
+    memory[0x002] = 6;
+    set_two(R_T0_PRESCALER, 1);
+    record[R_T0_COUNTER] = 255;
+    record[R_T0_LOAD] = 0xFC;
+    memory[0x001] = 1;
+    events(CYCLE, 1);
+    is("counter", record[R_T0_COUNTER], 0);
+    is("load stays", record[R_T0_LOAD], 0xFC);
+    is("IRQT0 beside what was there", memory[0x001], 5);
+
+    from("01, (e) by the mode as it now stands");
+    fresh();
+    put(0, made(LDI, 0x02, 7));
+    memory[0x002] = 6;
+    set_two(R_T0_PRESCALER, 1);
+    record[R_T0_COUNTER] = 255;
+    events(CYCLE, 1);
+    is("no clock once the mode is pin counting", record[R_T0_COUNTER], 255);
+    is("prescaler", two(R_T0_PRESCALER), 0);
+    fresh();
+    put(0, made(ORIM, 0x02, 8)); /* reload is turned on by the same cycle, but the prescaler starts anew */
+    memory[0x002] = 6;
+    set_two(R_T0_PRESCALER, 1);
+    record[R_T0_COUNTER] = 255;
+    events(CYCLE, 1);
+    is("counter", record[R_T0_COUNTER], 255);
+    is("prescaler", two(R_T0_PRESCALER), 1);
+
+    from("reading 7: an overflow sets its request over a write of $001");
+    fresh();
+    put(0, made(LDI, 0x01, 0));
+    memory[0x001] = 8;
+    memory[0x002] = 6;
+    set_two(R_T0_PRESCALER, 1);
+    record[R_T0_COUNTER] = 255;
+    events(CYCLE, 1);
+    is("$001", memory[0x001], 4);
+
+    from("01, One instruction: $004/$005 read the counter live; reading 7: before (e)");
+    fresh();
+    put(0, made(LDA, 0x004, 0));
+    put(1, made(LDA, 0x005, 0));
+    memory[0x002] = 6;
+    set_two(R_T0_PRESCALER, 1);
+    record[R_T0_COUNTER] = 0x3F;
+    events(CYCLE, 1);
+    is("low digit", record[R_AC], 15);
+    is("counter after (e)", record[R_T0_COUNTER], 0x40);
+    events(CYCLE, 1);
+    is("high digit", record[R_AC], 4);
+
+    from("reading 10: memory forms on $004/$005 read the counter and write the load");
+    fresh();
+    put(0, made(ADIM, 0x04, 1));
+    put(1, made(ADIM, 0x05, 1));
+    record[R_T0_COUNTER] = 0x34;
+    record[R_T0_LOAD] = 0x90;
+    events(CYCLE, 1);
+    is("AC", record[R_AC], 5);
+    is("load", record[R_T0_LOAD], 0x95);
+    is("counter", record[R_T0_COUNTER], 0x34);
+    events(CYCLE, 1);
+    is("AC", record[R_AC], 4);
+    is("load", record[R_T0_LOAD], 0x45);
+    is("counter", record[R_T0_COUNTER], 0x45);
+    is("$004 holds nothing", memory[0x004], 0);
+    is("$005 holds nothing", memory[0x005], 0);
+
+    from("01, One instruction: writing $005 loads the counter, (e) still counts");
+    fresh();
+    put(0, made(LDI, 0x05, 7));
+    memory[0x002] = 6;
+    set_two(R_T0_PRESCALER, 1);
+    events(CYCLE, 1);
+    is("counter", record[R_T0_COUNTER], 0x71);
+    is("load", record[R_T0_LOAD], 0x70);
+
+    from("reading 8: any write to $002 clears the prescaler");
+    fresh();
+    put(0, made(STA, 0x002, 0));
+    set_two(R_T0_PRESCALER, 2000);
+    events(CYCLE, 1);
+    is("the same value again", two(R_T0_PRESCALER), 1);
+
+    from("01, Timer0: 7 counts falling input edges of PORTA.0");
+    fresh();
+    memory[0x002] = 0xF;
+    memory[0x013] = 1; /* the request by rising edges; the count stays with falling ones */
+    record[R_T0_COUNTER] = 254;
+    record[R_T0_LOAD] = 0x21;
+    record[R_PIN_A] = 1;
+    events(CYCLE, 3);
+    is("cycles don't count", record[R_T0_COUNTER], 254);
+    events(PIN_A | 0, 1);
+    is("a falling edge counts", record[R_T0_COUNTER], 255);
+    is("no prescaler", two(R_T0_PRESCALER), 0);
+    events(PIN_A | 1, 1);
+    is("a rising edge doesn't", record[R_T0_COUNTER], 255);
+    is("but asks, by $013", memory[0x001], 8);
+    events(PIN_A | 1, 1);
+    events(PIN_A | 0, 1);
+    is("overflow reloads", record[R_T0_COUNTER], 0x21);
+    is("IRQT0 beside IRQX", memory[0x001], 12);
+    from("01, Timer0: input edges only");
+    record[R_PIN_A] = 1;
+    memory[0x016] = 1;
+    events(PIN_A | 0, 1);
+    is("an output pin", record[R_T0_COUNTER], 0x21);
+    from("01, Timer0: of PORTA.0 only");
+    record[R_PIN_A] = 14;
+    memory[0x016] = 0;
+    events(PIN_A | 0, 1);
+    is("other pins of port A", record[R_T0_COUNTER], 0x21);
+    from("01, Timer0: not in STOP; reading 13: edges set requests in every mode");
+    fresh();
+    memory[0x002] = 7;
+    record[R_MODE] = IN_STOP;
+    record[R_PIN_A] = 1;
+    events(PIN_A | 0, 1);
+    is("counter in STOP", record[R_T0_COUNTER], 0);
+    is("IRQX in STOP", memory[0x001], 8);
+    from("003, 14: HALT keeps Timer0 going");
+    record[R_MODE] = IN_HALT;
+    record[R_PIN_A] = 1;
+    events(PIN_A | 0, 1);
+    is("counter in HALT", record[R_T0_COUNTER], 1);
+    memory[0x002] = 6;
+    events(CYCLE, 2);
+    is("counter in HALT by clocks", record[R_T0_COUNTER], 2);
+    is("still in HALT", record[R_MODE], IN_HALT);
+}
+
+/* ---- Base timer ---- */
+
+static void base_timer(void)
+{
+    static const int ratio[4] = {1, 4, 8, 16};
+
+    from("003, section 8; 01, Base: ratios and overflow");
+    for (uint8_t select = 0; select < 4; select++) {
+        fresh();
+        memory[0x003] = 8 | select;
+        record[R_BASE_COUNTER] = 254;
+        events(BASE_PULSE, ratio[select] - 1);
+        is("prescaler", record[R_BASE_PRESCALER], ratio[select] - 1);
+        is("counter", record[R_BASE_COUNTER], 254);
+        events(BASE_PULSE, 1);
+        is("prescaler", record[R_BASE_PRESCALER], 0);
+        is("counter", record[R_BASE_COUNTER], 255);
+        is("no request", memory[0x001], 0);
+        events(BASE_PULSE, ratio[select]);
+        is("255 plus one", record[R_BASE_COUNTER], 0);
+        is("IRQBT", memory[0x001], 2);
+    }
+
+    from("003, section 8: else states disable");
+    for (uint8_t mode = 0; mode < 16; mode++) {
+        bool on = mode >= 8 && mode <= 11;
+
+        fresh();
+        memory[0x003] = mode;
+        events(BASE_PULSE, 16);
+        is("counts only when on", record[R_BASE_COUNTER] != 0, on);
+    }
+
+    from("01, Base: nothing in STOP");
+    fresh();
+    memory[0x003] = 8;
+    record[R_BASE_COUNTER] = 255;
+    record[R_MODE] = IN_STOP;
+    events(BASE_PULSE, 1);
+    is("counter", record[R_BASE_COUNTER], 255);
+    is("no request", memory[0x001], 0);
+    from("003, 14: HALT keeps the base timer going");
+    record[R_MODE] = IN_HALT;
+    events(BASE_PULSE, 1);
+    is("counter", record[R_BASE_COUNTER], 0);
+    is("IRQBT", memory[0x001], 2);
+
+    from("reading 8: a write to $003 that leaves the timer on");
+    fresh();
+    put(0, made(LDI, 0x03, 0xB));
+    memory[0x003] = 0xB;
+    record[R_BASE_PRESCALER] = 15;
+    record[R_BASE_COUNTER] = 77;
+    events(CYCLE, 1);
+    is("prescaler", record[R_BASE_PRESCALER], 0);
+    is("counter", record[R_BASE_COUNTER], 77);
+    from("01, Base: a write that disables clears both");
+    put(1, made(LDI, 0x03, 0xC));
+    record[R_BASE_PRESCALER] = 15;
+    events(CYCLE, 1);
+    is("prescaler", record[R_BASE_PRESCALER], 0);
+    is("counter", record[R_BASE_COUNTER], 0);
+    is("$003", memory[0x003], 0xC);
+}
+
+/* ---- Watchdog ---- */
+
+static void watchdog(void)
+{
+    static const unsigned period[8] = {4096, 1024, 256, 128, 64, 16, 4, 1};
+
+    from("003, section 9; 01, Watchdog: periods");
+    for (uint8_t select = 0; select < 8; select++) {
+        fresh_with(1);
+        put(0, made(LDI, 0x1E, select));
+        events(CYCLE, 1);
+        is("count after a write", two(R_WATCHDOG), period[select]);
+        set_two(R_PC, 0x123);
+        events(WATCHDOG_PULSE, (int)period[select] - 1);
+        is("count before the end", two(R_WATCHDOG), 1);
+        is("PC before the end", two(R_PC), 0x123);
+        events(WATCHDOG_PULSE, 1);
+        is("PC after the reset", two(R_PC), 0);
+        is("$01E after the reset", memory[0x01E], 8);
+        is("count after the reset", two(R_WATCHDOG), 4096);
+    }
+
+    from("01, Watchdog, when on; reading 11");
+    fresh();
+    set_two(R_WATCHDOG, 1);
+    set_two(R_PC, 0x123);
+    events(WATCHDOG_PULSE, 3);
+    is("count when off", two(R_WATCHDOG), 1);
+    is("PC when off", two(R_PC), 0x123);
+
+    from("003, section 9: it runs in STOP; 01, Reset: mode running");
+    fresh_with(1);
+    record[R_MODE] = IN_STOP;
+    set_two(R_WATCHDOG, 2);
+    set_two(R_PC, 0x456);
+    events(WATCHDOG_PULSE, 1);
+    is("mode before", record[R_MODE], IN_STOP);
+    is("count before", two(R_WATCHDOG), 1);
+    events(WATCHDOG_PULSE, 1);
+    is("mode after", record[R_MODE], RUNNING);
+    is("PC after", two(R_PC), 0);
+    is("WDF", memory[0x01E], 8);
+    from("003, 14: it runs in HALT");
+    record[R_MODE] = IN_HALT;
+    events(WATCHDOG_PULSE, 1);
+    is("count in HALT", two(R_WATCHDOG), 4095);
+    is("mode", record[R_MODE], IN_HALT);
+}
+
+/* ---- Reset ---- */
+
+/* Before, and after each column of 003's table 3.3 (x as 0, u as before). Bonding is BD0 = 1, BD1 = 0. */
+static const struct row {
+    unsigned address;
+    uint8_t before, pin, wdt;
+} rows[] = {
+    {0x000, 0xF, 0, 0},   {0x001, 0xF, 0, 0},   {0x002, 0xE, 0, 0xE}, {0x003, 0xB, 0, 0xB}, {0x004, 0, 0, 0},
+    {0x005, 0, 0, 0},     {0x006, 0, 0, 0},     {0x007, 0x7, 0, 0x7}, {0x008, 0xF, 0, 0},   {0x009, 0xF, 0, 0},
+    {0x00A, 0xF, 0, 0},   {0x00B, 0xF, 0, 0},   {0x00C, 0xD, 1, 0xD}, {0x00D, 0xF, 0, 0xF}, {0x00E, 0xF, 0, 0xF},
+    {0x00F, 0, 0, 0},     {0x010, 0xF, 0, 0xF}, {0x011, 0x7, 0, 0x7}, {0x012, 0x7, 0, 0x7}, {0x013, 0xF, 4, 0x7},
+    {0x014, 0xB, 0, 0x9}, {0x015, 0xF, 0, 0xF}, {0x016, 0xF, 0, 0},   {0x017, 0xF, 0, 0},   {0x018, 0xF, 0, 0},
+    {0x019, 0xF, 0, 0},   {0x01A, 0xF, 0, 0xF}, {0x01B, 0xF, 0, 0xF}, {0x01C, 0xF, 0, 0xF}, {0x01D, 0xF, 0, 0xF},
+    {0x01E, 0xF, 0, 0x8}, {0x01F, 0, 0, 0},     {0x370, 0xF, 0, 0xF}, {0x371, 0xF, 0, 0xF}, {0x372, 0xF, 0, 0xF},
+    {0x373, 0xF, 0, 0xF}, {0x374, 0xF, 0, 0xF}, {0x375, 0xF, 0, 0xF}, {0x376, 0xF, 0, 0xF}, {0x377, 0xF, 0, 0xC},
+};
+enum { ROWS = sizeof rows / sizeof rows[0] };
+
+static void before_reset(void)
+{
+    fresh_with(1 | 2);
+    for (int row = 0; row < ROWS; row++)
+        memory[rows[row].address] = rows[row].before;
+    memory[0x020] = 1;
+    memory[0x16F] = 2;
+    memory[0x300] = 3;
+    memory[0x348] = 4;
+    memory[0x358] = 5;
+    memory[0x36D] = 6;
+    set_two(R_PC, 0xABC);
+    record[R_AC] = 9;
+    record[R_CY] = 1;
+    record[R_MODE] = IN_HALT;
+    for (int level = 0; level < 8; level++)
+        set_two(R_STACK + 2 * level, 0x1FFF);
+    set_two(R_T0_PRESCALER, 1);
+    record[R_T0_COUNTER] = 200;
+    record[R_T0_LOAD] = 100;
+    record[R_BASE_PRESCALER] = 15;
+    record[R_BASE_COUNTER] = 50;
+    set_two(R_WATCHDOG, 1);
+    record[R_PIN_A] = 1;
+    record[R_PIN_B] = 2;
+    record[R_PIN_C] = 4;
+    record[R_PIN_D] = 8;
+    record[R_PENDING] = 1;
+    set_two(R_PENDING_ADDRESS, 0x123);
+}
+
+static void after_reset(void)
+{
+    int stack_left = 0;
+
+    from("01, Reset, HOUSE");
+    is("PC", two(R_PC), 0);
+    is("AC", record[R_AC], 0);
+    is("CY", record[R_CY], 0);
+    is("mode", record[R_MODE], RUNNING);
+    for (int level = 0; level < 8; level++)
+        stack_left += stack_entry(level) != 0;
+    is("stack entries left", stack_left, 0);
+    is("Timer0 prescaler", two(R_T0_PRESCALER), 0);
+    is("Timer0 counter", record[R_T0_COUNTER], 0);
+    is("Timer0 load", record[R_T0_LOAD], 0);
+    is("base prescaler", record[R_BASE_PRESCALER], 0);
+    is("base counter", record[R_BASE_COUNTER], 0);
+    is("watchdog", two(R_WATCHDOG), 4096);
+    is("pending read", record[R_PENDING], 0);
+    is("its address", two(R_PENDING_ADDRESS), 0);
+    from("01, Reset: pins and cells stay");
+    is("pins A", record[R_PIN_A], 1);
+    is("pins B", record[R_PIN_B], 2);
+    is("pins C", record[R_PIN_C], 4);
+    is("pins D", record[R_PIN_D], 8);
+    is("options", record[R_OPTIONS], 3);
+    is("$020", memory[0x020], 1);
+    is("$16F", memory[0x16F], 2);
+    is("$300", memory[0x300], 3);
+    is("$348", memory[0x348], 4);
+    is("$358", memory[0x358], 5);
+    is("$36D", memory[0x36D], 6);
+}
+
+static void resets(void)
+{
+    before_reset();
+    is("pin reset", step(RESET_PIN), 0);
+    from("003, table 3.3, first column");
+    for (int row = 0; row < ROWS; row++)
+        is("a register after the pin reset", memory[rows[row].address], rows[row].pin);
+    after_reset();
+
+    before_reset();
+    is("watchdog reset", step(WATCHDOG_PULSE), 0);
+    from("003, table 3.3, second column");
+    for (int row = 0; row < ROWS; row++)
+        is("a register after the watchdog reset", memory[rows[row].address], rows[row].wdt);
+    after_reset();
+
+    from("003, table 3.3: $013 and $014, u of 0 is 0");
+    fresh_with(1);
+    memory[0x013] = 0;
+    memory[0x01E] = 7;
+    set_two(R_WATCHDOG, 1);
+    events(WATCHDOG_PULSE, 1);
+    is("$013", memory[0x013], 0);
+    is("$014", memory[0x014], 0);
+    is("$01E", memory[0x01E], 8);
+
+    from("01, Reset: a fresh machine");
+    for (unsigned options = 0; options < 8; options++) {
+        int other = 0;
+
+        fresh_with(options);
+        is("$00C by BD0 and BD1", memory[0x00C], options >> 1);
+        is("$013 by the table", memory[0x013], 4);
+        for (unsigned address = 0; address < 1024; address++)
+            other += address != 0x00C && address != 0x013 && memory[address] != 0;
+        is("other cells that aren't 0", other, 0);
+        is("options", record[R_OPTIONS], options);
+        is("watchdog", two(R_WATCHDOG), 4096);
+        other = 0;
+        for (int at = 0; at < 37; at++)
+            other += at != R_OPTIONS && at != R_WATCHDOG && record[at] != 0;
+        is("other record bytes that aren't 0", other, 0);
+        is("a cycle", step(CYCLE), 0);
+    }
+
+    from("reading 15: a reset makes no edges");
+    fresh();
+    record[R_PIN_A] = 15;
+    record[R_PIN_B] = 15;
+    memory[0x016] = 15;
+    memory[0x017] = 15;
+    events(RESET_PIN, 1);
+    is("$001", memory[0x001], 0);
+}
+
+/* ---- Interrupts, HALT and STOP ---- */
+
+static void interrupts(void)
+{
+    static const struct {
+        uint8_t enabled, requested;
+        unsigned vector; /* 0 where none is taken */
+    } cases[] = {
+        {8, 8, 1}, {4, 4, 2}, {2, 2, 3}, {1, 1, 4}, {15, 15, 1}, {7, 15, 2}, {15, 3, 3}, {1, 15, 4}, {15, 5, 2},
+        {8, 7, 0}, {0, 15, 0}, {15, 0, 0}, {5, 10, 0},
+    };
+
+    from("003, 2.1 and 13.1; 01, (b)");
+    for (size_t at = 0; at < sizeof cases / sizeof cases[0]; at++) {
+        fresh();
+        put(0x345, made(LDI, 0x20, 9));
+        set_two(R_PC, 0x345);
+        record[R_CY] = 1;
+        memory[0x000] = cases[at].enabled;
+        memory[0x001] = cases[at].requested;
+        events(CYCLE, 1);
+        is("$001 is left", memory[0x001], cases[at].requested);
+        if (cases[at].vector) {
+            is("vector", two(R_PC), cases[at].vector);
+            is("pushed", stack_entry(0), 0x1345);
+            is("$000 is cleared", memory[0x000], 0);
+            is("no instruction in that cycle", memory[0x020], 0);
+        } else {
+            is("PC", two(R_PC), 0x346);
+            is("nothing pushed", stack_entry(0), 0);
+            is("$000 is left", memory[0x000], cases[at].enabled);
+            is("the instruction", memory[0x020], 9);
+        }
+        is("(e) either way", two(R_T0_PRESCALER), 1);
+        is("CY is left", record[R_CY], 1);
+    }
+
+    from("01, (b) and reading 4: no delay after the enabling instruction");
+    fresh();
+    put(0, made(LDI, 0x00, 1));
+    memory[0x001] = 1;
+    events(CYCLE, 1);
+    is("PC after enabling", two(R_PC), 1);
+    events(CYCLE, 1);
+    is("PC in the next cycle", two(R_PC), 4);
+    is("pushed", stack_entry(0), 1);
+
+    from("01, Errors: the request is not cleared on entry");
+    put(4, made(LDI, 0x00, 1));
+    events(CYCLE, 1);
+    events(CYCLE, 1);
+    is("enabled again, it comes again", two(R_PC), 4);
+    is("pushed", stack_entry(0), 5);
+
+    from("01, (b) before (c): an interrupt in front of an unlisted word");
+    fresh();
+    put(0, 0xC800);
+    memory[0x000] = 4;
+    memory[0x001] = 4;
+    is("is taken", step(CYCLE), 0);
+    is("PC", two(R_PC), 2);
+}
+
+static void asleep(void)
+{
+    uint8_t memory_before[1024];
+    uint8_t record_before[37];
+
+    from("003, 14; reading 1: the cycle that executes HALT does (e)");
+    fresh();
+    put(0x010, made(HALT, 0, 0));
+    set_two(R_PC, 0x010);
+    events(CYCLE, 1);
+    is("mode", record[R_MODE], IN_HALT);
+    is("PC", two(R_PC), 0x011);
+    is("prescaler", two(R_T0_PRESCALER), 1);
+    from("01, (a): asleep it does (d) and (e) only");
+    record[R_PENDING] = 1;
+    set_two(R_PENDING_ADDRESS, 0x010);
+    put(0x011, 0xC800);
+    events(CYCLE, 1);
+    is("prescaler", two(R_T0_PRESCALER), 2);
+    is("PC", two(R_PC), 0x011);
+    is("$01D of $D800", memory[0x01D], 0xD);
+    is("$01C of $D800", memory[0x01C], 0x8);
+    is("read is over", record[R_PENDING], 0);
+    is("its address is 0", two(R_PENDING_ADDRESS), 0);
+
+    from("01, (a): HALT wakes on any of the four; reading 2");
+    static const struct {
+        uint8_t source;
+        unsigned vector;
+    } four[] = {{8, 1}, {4, 2}, {2, 3}, {1, 4}};
+    for (int at = 0; at < 4; at++) {
+        fresh();
+        record[R_MODE] = IN_HALT;
+        set_two(R_PC, 0x234);
+        memory[0x000] = four[at].source;
+        memory[0x001] = 15 & ~four[at].source;
+        events(CYCLE, 1);
+        is("requested but not enabled, it sleeps", record[R_MODE], IN_HALT);
+        memory[0x001] = four[at].source;
+        events(CYCLE, 1);
+        is("mode", record[R_MODE], RUNNING);
+        is("vector", two(R_PC), four[at].vector);
+        is("pushed", stack_entry(0), 0x234);
+        is("$000", memory[0x000], 0);
+        is("$001", memory[0x001], four[at].source);
+        is("(e)", two(R_T0_PRESCALER), 2);
+    }
+
+    from("01, (e) in HALT, then (a): Timer0 wakes it");
+    fresh();
+    put(0, made(HALT, 0, 0));
+    memory[0x000] = 4;
+    memory[0x002] = 6;
+    record[R_T0_COUNTER] = 255;
+    events(CYCLE, 1);
+    is("asleep", record[R_MODE], IN_HALT);
+    events(CYCLE, 1);
+    is("IRQT0 from (e)", memory[0x001], 4);
+    is("still asleep", record[R_MODE], IN_HALT);
+    events(CYCLE, 1);
+    is("awake", record[R_MODE], RUNNING);
+    is("vector", two(R_PC), 2);
+    is("pushed: after the HALT", stack_entry(0), 1);
+
+    from("reading 1: the cycle that executes STOP does (d) and (e)");
+    fresh();
+    put(0x010, made(STOP, 0, 0));
+    set_two(R_PC, 0x010);
+    record[R_PENDING] = 1;
+    set_two(R_PENDING_ADDRESS, 0x010);
+    events(CYCLE, 1);
+    is("mode", record[R_MODE], IN_STOP);
+    is("PC", two(R_PC), 0x011);
+    is("$01C of $DC00", memory[0x01C], 0xC);
+    is("prescaler", two(R_T0_PRESCALER), 1);
+
+    from("01, (a); reading 3: a STOP that is not woken changes nothing at all");
+    fresh();
+    put(0x020, 0x1234);
+    record[R_MODE] = IN_STOP;
+    memory[0x000] = 15;
+    memory[0x001] = 6; /* Timer0 and base can't wake it */
+    memory[0x002] = 6;
+    set_two(R_T0_PRESCALER, 1);
+    record[R_T0_COUNTER] = 255;
+    record[R_PENDING] = 1;
+    set_two(R_PENDING_ADDRESS, 0x020);
+    set_two(R_PC, 0x077);
+    memcpy(memory_before, memory, sizeof memory);
+    memcpy(record_before, record, sizeof record);
+    events(CYCLE, 3);
+    is("memory changed", memcmp(memory, memory_before, sizeof memory) != 0, 0);
+    is("record changed", memcmp(record, record_before, sizeof record) != 0, 0);
+    events(PIN_B | 1, 1);
+    events(PIN_B | 0, 1);
+    is("a port edge asks", memory[0x001], 7);
+    from("reading 2: woken, the vector is the first of all four; reading 3: the read lands then");
+    events(CYCLE, 1);
+    is("mode", record[R_MODE], RUNNING);
+    is("vector", two(R_PC), 2);
+    is("pushed", stack_entry(0), 0x077);
+    is("$01A", memory[0x01A], 4);
+    is("$01B", memory[0x01B], 3);
+    is("$01C", memory[0x01C], 2);
+    is("$01D", memory[0x01D], 1);
+    is("read is over", record[R_PENDING], 0);
+    is("(e): counter", record[R_T0_COUNTER], 0);
+    is("(e): prescaler", two(R_T0_PRESCALER), 0);
+
+    from("01, (a): external wakes STOP");
+    fresh();
+    record[R_MODE] = IN_STOP;
+    memory[0x000] = 8;
+    events(PIN_A | 1, 1);
+    events(CYCLE, 1);
+    is("a rising edge is not the one chosen", record[R_MODE], IN_STOP);
+    events(PIN_A | 0, 1);
+    events(CYCLE, 1);
+    is("mode", record[R_MODE], RUNNING);
+    is("vector", two(R_PC), 1);
+
+    from("reading 5: enabled and requested are matched source by source");
+    fresh();
+    record[R_MODE] = IN_STOP;
+    memory[0x000] = 8;
+    memory[0x001] = 1;
+    events(CYCLE, 1);
+    is("mode", record[R_MODE], IN_STOP);
+
+    from("01, Events: the reset pin ends STOP");
+    events(RESET_PIN, 1);
+    is("mode", record[R_MODE], RUNNING);
+}
+
+/* ---- ROM read ---- */
+
+static void rom_read(void)
+{
+    from("003, section 11; 01, Writing $01A and (d)");
+    fresh();
+    put(0x000, made(LDI, 0x1C, 0xA));
+    put(0x001, made(LDI, 0x1B, 0xB));
+    put(0x002, made(LDI, 0x1A, 0xC));
+    put(0xABC, 0x9876);
+    events(CYCLE, 3);
+    is("pending", record[R_PENDING], 1);
+    is("address", two(R_PENDING_ADDRESS), 0xABC);
+    is("$01A so far", memory[0x01A], 0xC);
+    events(CYCLE, 1);
+    is("$01A", memory[0x01A], 6);
+    is("$01B", memory[0x01B], 7);
+    is("$01C", memory[0x01C], 8);
+    is("$01D", memory[0x01D], 9);
+    is("no longer pending", record[R_PENDING], 0);
+    is("address", two(R_PENDING_ADDRESS), 0);
+
+    from("01, (d): over any write");
+    fresh();
+    put(0x000, 0x781A); /* LDI $1A,0 asks for $000, where it stands itself */
+    put(0x001, made(LDI, 0x1D, 0x5));
+    events(CYCLE, 2);
+    is("$01A", memory[0x01A], 0xA);
+    is("$01B", memory[0x01B], 0x1);
+    is("$01C", memory[0x01C], 0x8);
+    is("$01D is 7, not the 5 written", memory[0x01D], 0x7);
+
+    from("01, (d); reading 6: a read that meets a write of $01A");
+    fresh();
+    put(0x000, made(LDI, 0x1A, 0x3)); /* asks for $003 */
+    put(0x001, made(LDI, 0x1A, 0x7)); /* asks for $007 while $003 lands */
+    put(0x003, 0x4567);
+    put(0x007, 0x89AB);
+    put(0x567, 0x1111);
+    events(CYCLE, 2);
+    is("$01A is the landed word's, not 7", memory[0x01A], 0x7);
+    is("$01B", memory[0x01B], 0x6);
+    is("$01C", memory[0x01C], 0x5);
+    is("$01D", memory[0x01D], 0x4);
+    is("the new read stays pending", record[R_PENDING], 1);
+    is("at the address its own write made", two(R_PENDING_ADDRESS), 0x007);
+    put(0x002, 0xFFFF);
+    events(CYCLE, 1);
+    is("$01A", memory[0x01A], 0xB);
+    is("$01D", memory[0x01D], 0x8);
+    is("over", record[R_PENDING], 0);
+
+    from("01, (d): a read lands in a cycle that takes an interrupt");
+    fresh();
+    put(0x000, made(LDI, 0x1A, 0x8));
+    put(0x008, 0x2468);
+    events(CYCLE, 1);
+    memory[0x000] = 1;
+    memory[0x001] = 1;
+    events(CYCLE, 1);
+    is("vector", two(R_PC), 4);
+    is("$01A", memory[0x01A], 8);
+    is("$01D", memory[0x01D], 2);
+
+    from("01, One instruction: only $01A asks");
+    fresh();
+    put(0x000, made(LDI, 0x1B, 1));
+    put(0x001, made(LDI, 0x1C, 1));
+    put(0x002, made(LDI, 0x1D, 1));
+    put(0x003, made(LDA, 0x01A, 0));
+    events(CYCLE, 4);
+    is("nothing pending", record[R_PENDING], 0);
+
+    from("reading 10: a memory form writes $01A too");
+    fresh();
+    put(0x000, made(ADIM, 0x1A, 0));
+    memory[0x01A] = 2;
+    memory[0x01C] = 1;
+    events(CYCLE, 1);
+    is("pending", record[R_PENDING], 1);
+    is("address", two(R_PENDING_ADDRESS), 0x102);
+}
+
+/* ---- Edges ---- */
+
+static void edges(void)
+{
+    static const struct {
+        uint8_t event; /* high nibble: the port */
+        uint8_t before, choice, control;
+        uint8_t requests;
+    } cases[] = {
+        {PIN_A | 0x0, 0x1, 0, 0x0, 8},  {PIN_A | 0x1, 0x0, 0, 0x0, 0},  {PIN_A | 0x1, 0x0, 1, 0x0, 8},
+        {PIN_A | 0x0, 0x1, 1, 0x0, 0},  {PIN_A | 0x0, 0x1, 0, 0x1, 0},  {PIN_A | 0x0, 0x1, 0, 0xE, 8},
+        {PIN_A | 0x0, 0xE, 0, 0x0, 0},  {PIN_A | 0x1, 0x1, 1, 0x0, 0},  {PIN_A | 0x0, 0x1, 2, 0x0, 8},
+        {PIN_B | 0x7, 0xF, 0, 0x0, 1},  {PIN_B | 0xF, 0x7, 0, 0x0, 0},  {PIN_B | 0xF, 0x7, 2, 0x0, 1},
+        {PIN_B | 0x7, 0xF, 2, 0x0, 0},  {PIN_B | 0x7, 0xF, 0, 0x8, 0},  {PIN_B | 0x3, 0xF, 0, 0x8, 1},
+        {PIN_B | 0x7, 0xF, 1, 0x0, 1},  {PIN_C | 0xE, 0xF, 0, 0x0, 1},  {PIN_C | 0x1, 0x0, 2, 0x0, 1},
+        {PIN_C | 0x1, 0x0, 2, 0x1, 0},  {PIN_C | 0x1, 0x2, 0, 0x0, 1},  {PIN_C | 0x1, 0x2, 2, 0x0, 1},
+        {PIN_D | 0x0, 0xF, 0, 0x0, 0},  {PIN_D | 0xF, 0x0, 3, 0x0, 0},
+        /* other pins of the port need not be at rest (reading 13) */
+        {PIN_B | 0x0, 0x1, 0, 0x0, 1},
+    };
+
+    from("01, Edges; 003, 6");
+    for (size_t at = 0; at < sizeof cases / sizeof cases[0]; at++) {
+        unsigned port = (cases[at].event >> 4) - 1u;
+
+        fresh();
+        record[R_PIN_A + port] = cases[at].before;
+        memory[0x013] = cases[at].choice;
+        memory[0x016 + port] = cases[at].control;
+        events(cases[at].event, 1);
+        is("$001", memory[0x001], cases[at].requests);
+        is("pins", record[R_PIN_A + port], cases[at].event & 15);
+        is("PC is left", two(R_PC), 0);
+        is("latch is left", memory[0x008 + port], 0);
+        is("no clock", two(R_T0_PRESCALER), 0);
+    }
+
+    from("reading 14: sharing with segments and sound changes nothing");
+    fresh();
+    memory[0x00C] = 0xC;
+    memory[0x00D] = 0xF;
+    record[R_PIN_C] = 1;
+    events(PIN_C | 0, 1);
+    is("$001", memory[0x001], 1);
+}
+
+/* ---- Runs ---- */
+
+static void runs(void)
+{
+    static const uint8_t cycles[10] = {0};
+    static const uint8_t mixed[] = {CYCLE, WATCHDOG_PULSE, CYCLE, PIN_B | 1, CYCLE};
+    static const uint8_t pulse_then_cycle[] = {WATCHDOG_PULSE, CYCLE};
+    static const uint8_t unknown_late[] = {CYCLE, CYCLE, 0x50};
+    uint8_t record_before[37];
+
+    from("01, a run stops at the script's end");
+    fresh();
+    is("answer", run(cycles, 10, NO_STOP), 0);
+    is("reason", reason, 2);
+    is("events", (long long)done_events, 10);
+    is("value", (long long)told, 0);
+    is("PC", two(R_PC), 10);
+
+    from("reading 17: an empty script");
+    fresh();
+    is("answer", run(cycles, 0, 0), 0);
+    is("reason", reason, 2);
+    is("events", (long long)done_events, 0);
+
+    from("01, a run stops after the first cycle that leaves PC at the address");
+    fresh();
+    is("answer", run(cycles, 10, 4), 0);
+    is("reason", reason, 0);
+    is("events", (long long)done_events, 4);
+    is("PC", two(R_PC), 4);
+    fresh();
+    is("not before the first event", run(cycles, 10, 0), 0);
+    is("reason", reason, 2);
+
+    from("01, the earlier named if two hold");
+    fresh();
+    is("answer", run(cycles, 4, 4), 0);
+    is("address before script's end", reason, 0);
+    is("events", (long long)done_events, 4);
+    fresh();
+    put(4, 0xC800);
+    is("answer", run(cycles, 10, 4), 0);
+    is("address before unlisted word", reason, 0);
+
+    from("01, 4096 and up: none");
+    fresh();
+    is("answer", run(cycles, 10, 0xFFFFFFFF), 0);
+    is("reason", reason, 2);
+    is("answer", run(cycles, 10, 0x100C), 0);
+    is("reason", reason, 2);
+
+    from("01, What comes back, 6; reading 16");
+    fresh();
+    put(2, made(LDI, 0x20, 7));
+    put(3, 0xF800);
+    is("answer", run(cycles, 10, NO_STOP), 6);
+    is("reason", reason, 1);
+    is("events", (long long)done_events, 3);
+    is("address", (long long)told, 3);
+    is("PC", two(R_PC), 3);
+    is("the state after the events before it", memory[0x020], 7);
+    is("prescaler", two(R_T0_PRESCALER), 3);
+    fresh();
+    put(0, 0xF800);
+    record[R_PENDING] = 1;
+    set_two(R_PENDING_ADDRESS, 9);
+    memcpy(record_before, record, sizeof record);
+    is("at once", run(cycles, 10, NO_STOP), 6);
+    is("events", (long long)done_events, 0);
+    is("record changed", memcmp(record, record_before, sizeof record) != 0, 0);
+
+    from("reading 17: a script that ends in front of an unlisted word");
+    fresh();
+    put(3, 0xF800);
+    is("answer", run(cycles, 3, NO_STOP), 0);
+    is("reason", reason, 2);
+    from("reading 17: only a cycle that would execute the word");
+    fresh();
+    put(0, 0xF800);
+    record[R_MODE] = IN_HALT;
+    is("asleep", run(cycles, 3, NO_STOP), 0);
+    fresh();
+    put(0, 0xF800);
+    is("no cycle", run(mixed + 1, 1, NO_STOP), 0);
+
+    from("reading 18: also a cycle asleep, never another event");
+    fresh();
+    record[R_MODE] = IN_STOP;
+    set_two(R_PC, 5);
+    is("answer", run(cycles, 3, 5), 0);
+    is("reason", reason, 0);
+    is("events", (long long)done_events, 1);
+    fresh_with(1);
+    set_two(R_PC, 5);
+    set_two(R_WATCHDOG, 1);
+    is("answer", run(pulse_then_cycle, 2, 0), 0);
+    is("the reset to $000 is not looked at", reason, 2);
+    is("PC", two(R_PC), 1);
+    fresh();
+    memory[0x000] = 1;
+    memory[0x001] = 1;
+    is("answer", run(cycles, 3, 4), 0);
+    is("an interrupt's cycle is", reason, 0);
+    is("events", (long long)done_events, 1);
+
+    from("01, a run counts every event");
+    fresh();
+    is("answer", run(mixed, 5, 3), 0);
+    is("reason", reason, 0);
+    is("events", (long long)done_events, 5);
+    is("pins B", record[R_PIN_B], 1);
+
+    from("reading 19: 5 over the whole script before anything moves");
+    fresh();
+    put(1, 0xF800);
+    memcpy(record_before, record, sizeof record);
+    is("answer", run(unknown_late, 3, 1), 5);
+    is("place", (long long)told, 2);
+    is("record changed", memcmp(record, record_before, sizeof record) != 0, 0);
+    is("reason is left", reason, 99);
+    is("events are left", (long long)done_events, 99);
+}
+
+/* ---- Refusals ---- */
+
+/* Answers what a step and a run make of the desk, which must be the same, and that neither changes a lent byte. */
+static uint32_t refused_alike(void)
+{
+    static const uint8_t one_cycle[1] = {CYCLE};
+    uint8_t memory_before[1024];
+    uint8_t record_before[37];
+    uint32_t by_step, by_run;
+    uint64_t told_by_step;
+
+    memcpy(memory_before, memory, sizeof memory);
+    memcpy(record_before, record, sizeof record);
+    by_step = step(CYCLE);
+    told_by_step = told;
+    is("memory changed", by_step != 0 && memcmp(memory, memory_before, sizeof memory) != 0, 0);
+    is("record changed", by_step != 0 && memcmp(record, record_before, sizeof record) != 0, 0);
+    memcpy(memory, memory_before, sizeof memory);
+    memcpy(record, record_before, sizeof record);
+    by_run = run(one_cycle, 1, NO_STOP);
+    is("a run's refusal", by_run, by_step);
+    is("a run's value", (long long)told, (long long)told_by_step);
+    is("memory changed", by_run != 0 && memcmp(memory, memory_before, sizeof memory) != 0, 0);
+    is("record changed", by_run != 0 && memcmp(record, record_before, sizeof record) != 0, 0);
+    memcpy(memory, memory_before, sizeof memory);
+    memcpy(record, record_before, sizeof record);
+    return by_step;
+}
+
+static void memory_refusals(void)
+{
+    static const struct {
+        unsigned address;
+        uint8_t highest; /* all the bits the cell may hold */
+    } cells[] = {
+        {0x000, 15}, {0x001, 15}, {0x002, 15}, {0x003, 15}, {0x004, 0},  {0x005, 0},  {0x006, 0},  {0x007, 7},
+        {0x008, 15}, {0x00B, 15}, {0x00D, 15}, {0x00E, 15}, {0x00F, 0},  {0x010, 15}, {0x011, 7},  {0x012, 7},
+        {0x013, 15}, {0x014, 11}, {0x015, 15}, {0x016, 15}, {0x019, 15}, {0x01A, 15}, {0x01D, 15}, {0x01F, 0},
+        {0x020, 15}, {0x16F, 15}, {0x170, 0},  {0x2FF, 0},  {0x300, 15}, {0x348, 15}, {0x349, 0},  {0x357, 0},
+        {0x358, 15}, {0x36D, 15}, {0x36E, 0},  {0x36F, 0},  {0x370, 15}, {0x377, 15}, {0x378, 0},  {0x3FF, 0},
+    };
+
+    from("01, What is lent, Memory; What comes back, 3");
+    for (size_t at = 0; at < sizeof cells / sizeof cells[0]; at++) {
+        int misjudged = 0;
+
+        for (unsigned byte = 0; byte < 256; byte++) {
+            bool good = (byte & ~(unsigned)cells[at].highest) == 0;
+
+            fresh();
+            memory[cells[at].address] = (uint8_t)byte;
+            misjudged += step(PIN_D) != (good ? 0 : 3) || told != (good ? 0 : cells[at].address);
+        }
+        is("bytes misjudged at a cell", misjudged, 0);
+    }
+    fresh();
+    memory[0x3FF] = 1;
+    memory[0x170] = 1;
+    memory[0x200] = 1;
+    is("several", refused_alike(), 3);
+    is("the lowest", (long long)told, 0x170);
+    from("01, What is lent: $01E may hold WDF");
+    fresh();
+    memory[0x01E] = 8;
+    is("a step", step(CYCLE), 0);
+}
+
+static void record_refusals(void)
+{
+    static const struct {
+        const char *what;
+        unsigned cell; /* a cell set first; 0x3FF and 0 for none */
+        uint8_t held;
+        int at;
+        bool wide;
+        unsigned good, bad; /* the field's highest (or lowest) good value and the first bad one */
+    } cases[] = {
+        {"PC", 0x3FF, 0, R_PC, true, 4095, 4096},
+        {"AC", 0x3FF, 0, R_AC, false, 15, 16},
+        {"CY", 0x3FF, 0, R_CY, false, 1, 2},
+        {"mode", 0x3FF, 0, R_MODE, false, 2, 3},
+        {"newest stack entry", 0x3FF, 0, R_STACK, true, 8191, 8192},
+        {"oldest stack entry", 0x3FF, 0, R_STACK + 14, true, 8191, 8192},
+        {"Timer0 prescaler /2048", 0x002, 0, R_T0_PRESCALER, true, 2047, 2048},
+        {"Timer0 prescaler /512", 0x002, 1, R_T0_PRESCALER, true, 511, 512},
+        {"Timer0 prescaler /128", 0x002, 2, R_T0_PRESCALER, true, 127, 128},
+        {"Timer0 prescaler /32", 0x002, 3, R_T0_PRESCALER, true, 31, 32},
+        {"Timer0 prescaler /8", 0x002, 4, R_T0_PRESCALER, true, 7, 8},
+        {"Timer0 prescaler /4", 0x002, 0xD, R_T0_PRESCALER, true, 3, 4},
+        {"Timer0 prescaler /2", 0x002, 0xE, R_T0_PRESCALER, true, 1, 2},
+        {"Timer0 prescaler, pin", 0x002, 0xF, R_T0_PRESCALER, true, 0, 1},
+        {"base prescaler /1", 0x003, 0x8, R_BASE_PRESCALER, false, 0, 1},
+        {"base prescaler /4", 0x003, 0x9, R_BASE_PRESCALER, false, 3, 4},
+        {"base prescaler /8", 0x003, 0xA, R_BASE_PRESCALER, false, 7, 8},
+        {"base prescaler /16", 0x003, 0xB, R_BASE_PRESCALER, false, 15, 16},
+        {"base prescaler, off", 0x003, 0x3, R_BASE_PRESCALER, false, 0, 1},
+        {"base prescaler, off by bit 2", 0x003, 0xF, R_BASE_PRESCALER, false, 0, 1},
+        {"base counter, off", 0x003, 0x3, R_BASE_COUNTER, false, 0, 1},
+        {"base counter, off by bit 2", 0x003, 0xC, R_BASE_COUNTER, false, 0, 255},
+        {"watchdog at least", 0x3FF, 0, R_WATCHDOG, true, 1, 0},
+        {"watchdog at most 4096", 0x01E, 8, R_WATCHDOG, true, 4096, 4097},
+        {"watchdog at most 1024", 0x01E, 1, R_WATCHDOG, true, 1024, 1025},
+        {"watchdog at most 256", 0x01E, 2, R_WATCHDOG, true, 256, 257},
+        {"watchdog at most 128", 0x01E, 3, R_WATCHDOG, true, 128, 129},
+        {"watchdog at most 64", 0x01E, 4, R_WATCHDOG, true, 64, 65},
+        {"watchdog at most 16", 0x01E, 0xD, R_WATCHDOG, true, 16, 17},
+        {"watchdog at most 4", 0x01E, 6, R_WATCHDOG, true, 4, 5},
+        {"watchdog at most 1", 0x01E, 7, R_WATCHDOG, true, 1, 2},
+        {"pins A", 0x3FF, 0, R_PIN_A, false, 15, 16},
+        {"pins B", 0x3FF, 0, R_PIN_B, false, 15, 16},
+        {"pins C", 0x3FF, 0, R_PIN_C, false, 15, 16},
+        {"pins D", 0x3FF, 0, R_PIN_D, false, 15, 16},
+        {"options, bonding 0", 0x00C, 0, R_OPTIONS, false, 1, 8},
+        {"options, bonding 3", 0x00C, 3, R_OPTIONS, false, 7, 8},
+        {"BD0 against $00C", 0x00C, 0xD, R_OPTIONS, false, 2, 4},
+        {"BD1 against $00C", 0x00C, 0xE, R_OPTIONS, false, 5, 3},
+        {"pending", 0x3FF, 0, R_PENDING, false, 1, 2},
+        {"pending address, none pending", 0x3FF, 0, R_PENDING_ADDRESS, true, 0, 1},
+    };
+
+    from("01, What is lent, Machine record; What comes back, 4");
+    for (size_t at = 0; at < sizeof cases / sizeof cases[0]; at++) {
+        for (int bad = 0; bad < 2; bad++) {
+            unsigned field = bad ? cases[at].bad : cases[at].good;
+
+            fresh();
+            memory[cases[at].cell] = cases[at].held;
+            if (cases[at].wide)
+                set_two(cases[at].at, field);
+            else
+                record[cases[at].at] = (uint8_t)field;
+            is(cases[at].what, refused_alike(), bad ? 4 : 0);
+            is("value", (long long)told, 0);
+        }
+    }
+
+    from("01, What is lent: counters and load are whole bytes");
+    fresh();
+    memory[0x003] = 8;
+    record[R_T0_COUNTER] = 255;
+    record[R_T0_LOAD] = 255;
+    record[R_BASE_COUNTER] = 255;
+    is("a step", refused_alike(), 0);
+
+    from("01, What is lent: pending address is a PC");
+    fresh();
+    record[R_PENDING] = 1;
+    set_two(R_PENDING_ADDRESS, 4095);
+    is("4095", refused_alike(), 0);
+    set_two(R_PENDING_ADDRESS, 4096);
+    is("4096", refused_alike(), 4);
+
+    from("01, What comes back, 4: record bytes not 37");
+    fresh();
+    is("36", second_step(program, 8192, memory, 1024, record, 36, CYCLE, &told), 4);
+    is("value", (long long)told, 0);
+}
+
+static void call_refusals(void)
+{
+    static const uint8_t one_cycle[1] = {CYCLE};
+
+    from("01, What comes back: lowest applicable number first");
+    fresh();
+    memory[0x004] = 1;
+    record[R_AC] = 16;
+    told = 99;
+    is("1", second_step(program, 8190, memory, 1023, record, 36, 0x50, &told), 1);
+    is("told in bytes", (long long)told, 8190);
+    is("1 for words' number", second_step(program, 4096, memory, 1024, record, 37, CYCLE, &told), 1);
+    is("told in bytes", (long long)told, 4096);
+    is("2", second_step(program, 8192, memory, 1023, record, 36, 0x50, &told), 2);
+    is("length", (long long)told, 1023);
+    is("3", second_step(program, 8192, memory, 1024, record, 36, 0x50, &told), 3);
+    is("address", (long long)told, 4);
+    memory[0x004] = 0;
+    is("4 by length", second_step(program, 8192, memory, 1024, record, 38, 0x50, &told), 4);
+    is("4 by a field", second_step(program, 8192, memory, 1024, record, 37, 0x50, &told), 4);
+    record[R_AC] = 0;
+    put(0, 0xC800);
+    is("5", second_step(program, 8192, memory, 1024, record, 37, 0x50, &told), 5);
+    is("place", (long long)told, 0);
+    is("6", refused_alike(), 6);
+    is("address", (long long)told, 0);
+    is("run: 1", second_run(program, 0, memory, 0, record, 0, one_cycle, 1, 0, &reason, &done_events, &told), 1);
+    is("length", (long long)told, 0);
+    is("run: 2", second_run(program, 8192, memory, 0, record, 0, one_cycle, 1, 0, &reason, &done_events, &told), 2);
+    is("length", (long long)told, 0);
+    is("run: 4", second_run(program, 8192, memory, 1024, record, 0, one_cycle, 1, 0, &reason, &done_events, &told), 4);
+
+    from("01, Events: other bytes are unknown");
+    fresh();
+    for (unsigned event = 0; event < 256; event++) {
+        bool known = event <= 3 || (event >= 0x10 && event <= 0x4F);
+
+        told = 99;
+        is("an event byte", step((uint8_t)event), known ? 0 : 5);
+        is("place", (long long)told, 0);
+    }
+
+    from("01, What comes back, 6: the address of the word in a step");
+    fresh();
+    put(0x9AB, 0xD401);
+    set_two(R_PC, 0x9AB);
+    record[R_PENDING] = 1;
+    set_two(R_PENDING_ADDRESS, 0x777);
+    is("6", refused_alike(), 6);
+    is("address", (long long)told, 0x9AB);
+
+    from("reading 20: fresh");
+    memset(memory, 0xEE, sizeof memory);
+    memset(record, 0xEE, sizeof record);
+    is("2", second_fresh(memory, 1000, record, 36, 8, &told), 2);
+    is("length", (long long)told, 1000);
+    is("4", second_fresh(memory, 1024, record, 36, 8, &told), 4);
+    is("value", (long long)told, 0);
+    is("12", second_fresh(memory, 1024, record, 37, 8, &told), 12);
+    is("options", (long long)told, 8);
+    is("12", second_fresh(memory, 1024, record, 37, 0xFFFFFFFF, &told), 12);
+    is("options", (long long)told, 0xFFFFFFFF);
+    is("memory is left", memory[0x013], 0xEE);
+    is("record is left", record[0], 0xEE);
+    is("done", second_fresh(memory, 1024, record, 37, 7, &told), 0);
+    is("value", (long long)told, 0);
+}
+
+/* ---- The list of writers ---- */
+
+static unsigned words_that_change(uint16_t cell)
+{
+    unsigned found = 0;
+
+    for (uint32_t word = 0; word <= 0xFFFF; word++)
+        found += search_changes((uint16_t)word, cell);
+    return found;
+}
+
+static void writers(void)
+{
+    static const uint16_t never[] = {0x4820, 0x5820, 0x6020, 0x6820, 0x77A0, 0x480F, 0x580F, 0x600F, 0x680F, 0x778F};
+    uint8_t addresses[8192];
+    uint64_t count = 99;
+
+    from("reading 26: 0 added, subtracted, exclusive or, or; and with 15: never writers");
+    for (size_t at = 0; at < sizeof never / sizeof never[0]; at++)
+        is("a word", search_changes(never[at], 0x020), 0);
+
+    from("01, One instruction: who writes");
+    is("ADC $020", search_changes(0x0020, 0x020), 0);
+    is("ADCM $020", search_changes(0x0420, 0x020), 1);
+    is("LDA $020", search_changes(0x3820, 0x020), 0);
+    is("STA $020", search_changes(0x3C20, 0x020), 1);
+    is("STA $021", search_changes(0x3C21, 0x020), 0);
+    is("SBI $20,1", search_changes(0x50A0, 0x020), 0);
+    is("SBIM $20,1", search_changes(0x58A0, 0x020), 1);
+    is("ANDIM $20,14", search_changes(0x7720, 0x020), 1);
+    is("LDI $20,0", search_changes(0x7820, 0x020), 1);
+    is("DAA $20", search_changes(0xCB20, 0x020), 1);
+    is("DAS $20", search_changes(0xCD20, 0x020), 1);
+    is("RTNW 2,0", search_changes(0xD020, 0x020), 0);
+    is("unlisted $CB80", search_changes(0xCB80, 0x020), 0);
+    is("STA $30F through $00F? no", search_changes(0x3F0F, 0x020), 0);
+    is("STA $08F", search_changes(0x3C8F, 0x020), 0);
+    is("DAA $0F", search_changes(0xCB0F, 0x36D), 1);
+    is("DAA $6D", search_changes(0xCB6D, 0x36D), 0);
+
+    /* Below $080: 8 memory forms, ADIM SBIM EORIM ORIM ANDIM with 15 immediates each, LDI with 16, DAA, DAS; each
+       naming the cell or $00F. From $080 up the immediate forms, DAA and DAS can only name $00F. */
+    from("reading 26, counted over all words");
+    is("words that change $020: 2 x (8 + 75 + 16 + 2)", words_that_change(0x020), 202);
+    is("words that change $07F", words_that_change(0x07F), 202);
+    is("words that change $080: 16 + 91 + 2", words_that_change(0x080), 109);
+    is("words that change $36D", words_that_change(0x36D), 109);
+
+    from("01, What comes back, 8");
+    fresh();
+    static const struct {
+        uint32_t cell;
+        uint32_t answer;
+    } asked[] = {
+        {0x000, 8}, {0x00F, 8}, {0x01F, 8}, {0x020, 0}, {0x16F, 0}, {0x170, 8}, {0x2FF, 8}, {0x300, 0},
+        {0x348, 0}, {0x349, 8}, {0x357, 8}, {0x358, 0}, {0x36D, 0}, {0x36E, 8}, {0x370, 8}, {0x3FF, 8},
+        {0x400, 8}, {0x420, 8}, {0x10020, 8}, {0xFFFFFFFF, 8},
+    };
+    for (size_t at = 0; at < sizeof asked / sizeof asked[0]; at++) {
+        is("asked", second_list(program, 8192, asked[at].cell, addresses, 0, &count, &told), asked[at].answer);
+        is("value", (long long)told, asked[at].answer ? (long long)asked[at].cell : 0);
+    }
+    is("an empty list's count", (long long)count, 0);
+
+    from("reading 21: list, 1 then 8 then 7; 01: room counted in bytes");
+    put(0xFFF, made(STA, 0x300, 0));
+    put(0x123, made(LDI, 0x0F, 0));
+    memset(addresses, 0xEE, sizeof addresses);
+    count = 99;
+    is("1", second_list(program, 8191, 0x000, addresses, 0, &count, &told), 1);
+    is("length", (long long)told, 8191);
+    is("8", second_list(program, 8192, 0x000, addresses, 0, &count, &told), 8);
+    is("7", second_list(program, 8192, 0x300, addresses, 3, &count, &told), 7);
+    is("room needed", (long long)told, 4);
+    is("count is left", (long long)count, 99);
+    is("addresses are left", addresses[0], 0xEE);
+    is("done", second_list(program, 8192, 0x300, addresses, 4, &count, &told), 0);
+    is("count", (long long)count, 4);
+    is("first", addresses[0] << 8 | addresses[1], 0x123);
+    is("second", addresses[2] << 8 | addresses[3], 0xFFF);
+    is("beyond", addresses[4], 0xEE);
+
+    from("01, Instruction words: never the address of an unlisted word");
+    for (unsigned address = 0; address < 4096; address++)
+        put(address, address & 1 ? 0x3C20 : 0xCBA0);
+    is("done", second_list(program, 8192, 0x020, addresses, sizeof addresses, &count, &told), 0);
+    is("count", (long long)count, 4096);
+    is("first", addresses[0] << 8 | addresses[1], 0x001);
+    is("last", addresses[4094] << 8 | addresses[4095], 0xFFF);
+}
+
+/* ---- Level, picture, book ---- */
+
+static uint32_t level_of(unsigned high, unsigned low, unsigned ground, size_t length, int32_t *level)
+{
+    const uint8_t body[6] = {(uint8_t)(high >> 8), (uint8_t)high, (uint8_t)(low >> 8), (uint8_t)low,
+                             (uint8_t)ground, 0};
+
+    return second_level(memory, 1024, body, length, level, &told);
+}
+
+static void levels(void)
+{
+    int32_t level = 99;
+
+    from("01, Panel book: level = code - ground, from -63 to 63");
+    fresh();
+    memory[0x16F] = 7;
+    memory[0x358] = 7;
+    is("done", level_of(0x16F, 0x358, 0, 5, &level), 0);
+    is("highest", level, 63);
+    memory[0x16F] = 0;
+    memory[0x358] = 0;
+    is("done", level_of(0x16F, 0x358, 63, 5, &level), 0);
+    is("lowest", level, -63);
+
+    from("reading 21: level, 2, 3, 10, 11, 9");
+    level = 99;
+    memory[0x020] = 8;
+    memory[0x021] = 9;
+    is("9, high first", level_of(0x020, 0x021, 0, 5, &level), 9);
+    is("value", (long long)told, 0);
+    memory[0x020] = 7;
+    is("9, low", level_of(0x020, 0x021, 0, 5, &level), 9);
+    is("value", (long long)told, 1);
+    is("11 before 9", level_of(0x020, 0x021, 64, 5, &level), 11);
+    is("value", (long long)told, 3);
+    is("equal cells", level_of(0x021, 0x021, 0, 5, &level), 11);
+    is("a system register", level_of(0x01F, 0x021, 0, 5, &level), 11);
+    is("a sound register", level_of(0x020, 0x370, 0, 5, &level), 11);
+    is("beyond memory", level_of(0x420, 0x021, 0, 5, &level), 11);
+    is("10 before 11", level_of(0x021, 0x021, 64, 4, &level), 10);
+    is("value", (long long)told, 0);
+    is("10 for six bytes", level_of(0x020, 0x021, 0, 6, &level), 10);
+    memory[0x3FF] = 1;
+    is("3 before 10", level_of(0x021, 0x021, 64, 4, &level), 3);
+    is("value", (long long)told, 0x3FF);
+    is("2", second_level(memory, 1023, memory, 0, &level, &told), 2);
+    is("level is left", level, 99);
+}
+
+static void pictures(void)
+{
+    static const uint8_t wiring[9] = {0x03, 0x00, 0, 0x03, 0x48, 3, 0x03, 0x00, 0};
+    static const uint8_t bad_bit[6] = {0x03, 0x00, 0, 0x03, 0x48, 4};
+    static const uint8_t not_display[6] = {0x03, 0x00, 0, 0x03, 0x49, 0};
+    static const uint8_t scan_cell[3] = {0x03, 0x58, 0};
+    static uint8_t many[723];
+    uint8_t picture[241];
+    uint64_t count = 99;
+
+    from("01, Panel book: a picture");
+    fresh();
+    memory[0x300] = 1;
+    memory[0x348] = 8;
+    memory[0x007] = 4;
+    memset(picture, 0xEE, sizeof picture);
+    is("done", second_picture(memory, 1024, record, 37, wiring, 9, picture, 3, &count, &told), 0);
+    is("count", (long long)count, 3);
+    is("first", picture[0], 1);
+    is("second", picture[1], 1);
+    is("an element may stand twice", picture[2], 1);
+    is("beyond", picture[3], 0xEE);
+    memory[0x300] = 14;
+    memory[0x348] = 7;
+    is("done", second_picture(memory, 1024, record, 37, wiring, 9, picture, 3, &count, &told), 0);
+    is("first", picture[0], 0);
+    is("second", picture[1], 0);
+    from("01, Panel book: all 0 when LCDON is 0 or in STOP");
+    memory[0x300] = 15;
+    memory[0x007] = 3;
+    picture[0] = 0xEE;
+    is("done", second_picture(memory, 1024, record, 37, wiring, 9, picture, 3, &count, &told), 0);
+    is("LCDON 0", picture[0], 0);
+    memory[0x007] = 7;
+    record[R_MODE] = IN_STOP;
+    picture[0] = 0xEE;
+    is("done", second_picture(memory, 1024, record, 37, wiring, 9, picture, 3, &count, &told), 0);
+    is("STOP", picture[0], 0);
+    record[R_MODE] = IN_HALT;
+    is("done", second_picture(memory, 1024, record, 37, wiring, 9, picture, 3, &count, &told), 0);
+    is("HALT shows", picture[0], 1);
+
+    from("reading 21: picture, 2, 3, 4, 10, 11, 7");
+    picture[0] = 0xEE;
+    count = 99;
+    is("7", second_picture(memory, 1024, record, 37, wiring, 9, picture, 2, &count, &told), 7);
+    is("room needed", (long long)told, 3);
+    is("count is left", (long long)count, 99);
+    is("picture is left", picture[0], 0xEE);
+    is("11, bit", second_picture(memory, 1024, record, 37, bad_bit, 6, picture, 0, &count, &told), 11);
+    is("kind", (long long)told, 2);
+    is("11, address", second_picture(memory, 1024, record, 37, not_display, 6, picture, 9, &count, &told), 11);
+    is("11, scan cell", second_picture(memory, 1024, record, 37, scan_cell, 3, picture, 9, &count, &told), 11);
+    is("10, not of threes", second_picture(memory, 1024, record, 37, bad_bit, 5, picture, 9, &count, &told), 10);
+    is("value", (long long)told, 0);
+    is("10, none", second_picture(memory, 1024, record, 37, wiring, 0, picture, 9, &count, &told), 10);
+    for (int element = 0; element < 241; element++)
+        many[3 * element] = 3;
+    is("240 elements", second_picture(memory, 1024, record, 37, many, 720, picture, 240, &count, &told), 0);
+    is("count", (long long)count, 240);
+    is("10, 241 elements", second_picture(memory, 1024, record, 37, many, 723, picture, 241, &count, &told), 10);
+    record[R_CY] = 2;
+    is("4", second_picture(memory, 1024, record, 37, wiring, 0, picture, 9, &count, &told), 4);
+    is("4 by length", second_picture(memory, 1024, record, 36, wiring, 0, picture, 9, &count, &told), 4);
+    memory[0x005] = 1;
+    is("3", second_picture(memory, 1024, record, 36, wiring, 0, picture, 9, &count, &told), 3);
+    is("2", second_picture(memory, 1025, record, 36, wiring, 0, picture, 9, &count, &told), 2);
+    is("length", (long long)told, 1025);
+}
+
+static uint64_t bodies[6]; /* offset and length of wiring, level, program */
+
+static uint32_t read_book(const uint8_t *book, uint64_t length)
+{
+    return second_book_read(book, length, &bodies[0], &bodies[1], &bodies[2], &bodies[3], &bodies[4], &bodies[5],
+                            &told);
+}
+
+static void books(void)
+{
+    /* 3; kind 1 at 16, 8,192 bytes; kind 2 at 8,208 ($2010), 6 bytes; kind 3 at 8,214 ($2016), 5 bytes. */
+    static const uint8_t contents[16] = {3, 1, 0x00, 0x10, 0x20, 0x00, 2, 0x20, 0x10, 0x00, 0x06,
+                                         3, 0x20, 0x16, 0x00, 0x05};
+    static const uint8_t wiring[6] = {0x03, 0x01, 1, 0x03, 0x47, 2};
+    static const uint8_t level[5] = {0x00, 0x20, 0x03, 0x00, 63};
+    static const uint8_t bad_wiring[6] = {0x03, 0x01, 1, 0x03, 0x47, 4};
+    static const uint8_t bad_level[5] = {0x00, 0x20, 0x00, 0x20, 0};
+    static uint8_t book[9000], spoiled[9000];
+    const uint64_t length = 16 + 8192 + 6 + 5;
+    uint64_t count = 99;
+
+    from("01, Panel book: writing");
+    fresh();
+    put(0, 0x1234);
+    put(0xFFF, 0x5678);
+    memset(book, 0xEE, sizeof book);
+    is("done", second_book_write(program, 8192, wiring, 6, level, 5, book, sizeof book, &count, &told), 0);
+    is("count", (long long)count, (long long)length);
+    is("contents differ", memcmp(book, contents, 16) != 0, 0);
+    is("program differs", memcmp(book + 16, program, 8192) != 0, 0);
+    is("wiring differs", memcmp(book + 8208, wiring, 6) != 0, 0);
+    is("level differs", memcmp(book + 8214, level, 5) != 0, 0);
+    is("beyond", book[length], 0xEE);
+
+    from("01, Panel book: reading");
+    is("done", read_book(book, length), 0);
+    is("wiring", (long long)bodies[0], 8208);
+    is("wiring's length", (long long)bodies[1], 6);
+    is("level", (long long)bodies[2], 8214);
+    is("level's length", (long long)bodies[3], 5);
+    is("program", (long long)bodies[4], 16);
+    is("program's length", (long long)bodies[5], 8192);
+
+    from("01, What comes back, 10; reading 23");
+    for (int byte = 0; byte < 16; byte++) {
+        memcpy(spoiled, book, sizeof book);
+        spoiled[byte] ^= 1;
+        bodies[0] = 99;
+        is("a contents byte", read_book(spoiled, length), 10);
+        is("value", (long long)told, 0);
+        is("outs are left", (long long)bodies[0], 99);
+    }
+    is("a byte less", read_book(book, length - 1), 10);
+    is("a byte more", read_book(book, length + 1), 10);
+    is("an element more", read_book(book, length + 3), 10);
+    is("nothing", read_book(book, 0), 10);
+    is("contents only", read_book(book, 16), 10);
+
+    from("01, What comes back, 11: the lowest kind");
+    memcpy(spoiled, book, sizeof book);
+    spoiled[8214 + 4] = 64;
+    is("ground", read_book(spoiled, length), 11);
+    is("kind", (long long)told, 3);
+    spoiled[8208 + 2] = 4;
+    is("both", read_book(spoiled, length), 11);
+    is("kind", (long long)told, 2);
+    spoiled[0] = 2;
+    is("10 before 11", read_book(spoiled, length), 10);
+
+    from("01, Panel book: the writer answers 10 for a length, 11 for a body, 7 last");
+    memset(book, 0xEE, sizeof book);
+    count = 99;
+    is("program", second_book_write(program, 8191, bad_wiring, 6, level, 5, book, 0, &count, &told), 10);
+    is("value", (long long)told, 0);
+    is("wiring", second_book_write(program, 8192, bad_wiring, 5, level, 5, book, 0, &count, &told), 10);
+    is("no wiring", second_book_write(program, 8192, wiring, 0, level, 5, book, 0, &count, &told), 10);
+    is("level", second_book_write(program, 8192, bad_wiring, 6, level, 4, book, 0, &count, &told), 10);
+    is("11", second_book_write(program, 8192, bad_wiring, 6, bad_level, 5, book, 0, &count, &told), 11);
+    is("kind", (long long)told, 2);
+    is("11", second_book_write(program, 8192, wiring, 6, bad_level, 5, book, 0, &count, &told), 11);
+    is("kind", (long long)told, 3);
+    is("7", second_book_write(program, 8192, wiring, 6, level, 5, book, length - 1, &count, &told), 7);
+    is("room needed", (long long)told, (long long)length);
+    is("count is left", (long long)count, 99);
+    is("book is left", book[0], 0xEE);
+    is("just enough", second_book_write(program, 8192, wiring, 6, level, 5, book, length, &count, &told), 0);
+    is("beyond", book[length], 0xEE);
+}
+
+/* ---- Many programs ---- */
+
+static uint32_t seed = 1;
+
+static unsigned any(unsigned below)
+{
+    seed = seed * 1664525u + 1013904223u;
+    return (seed >> 16) % below;
+}
+
+/* Words that keep a program busy with the cells that do something, rather than lost in data. */
+static unsigned any_word(void)
+{
+    static const uint8_t lively[] = {0x00, 0x01, 0x02, 0x03, 0x04, 0x05, 0x07, 0x08, 0x09, 0x0A, 0x0B, 0x0C, 0x0E, 0x0F,
+                                     0x10, 0x11, 0x12, 0x13, 0x14, 0x16, 0x17, 0x18, 0x1A, 0x1B, 0x1C, 0x1D, 0x1E,
+                                     0x20};
+    unsigned cell = lively[any(sizeof lively)];
+
+    switch (any(8)) {
+    case 0:
+        return any(0x10000);
+    case 1:
+        return any(8) << 11 | any(2) << 10 | cell;
+    case 2:
+    case 3:
+        return (8 + any(8)) << 11 | any(16) << 7 | cell;
+    case 4:
+        return 0x8000 | any(0x4800);
+    case 5:
+        return (any(2) ? 0xCB00 : 0xCD00) | cell;
+    case 6: {
+        static const uint16_t rest[] = {0xD400, 0xD800, 0xDC00, 0xF000, 0xF7FF, 0xFFFF, 0xD0A5};
+
+        return rest[any(7)];
+    }
+    default:
+        return 0xE000 | any(0x1000);
+    }
+}
+
+/* A run is its steps one by one, and every state on the way can be lent again (01, Events; What is lent). */
+static void many_programs(void)
+{
+    enum { PROGRAMS = 300, EVENTS = 400 };
+    uint8_t script[EVENTS];
+    uint8_t memory_then[1024], record_then[37];
+    unsigned differ = 0, not_lendable = 0, wrong_count = 0, wrong_reason = 0;
+
+    from("01, a run is its events in order");
+    for (int programs = 0; programs < PROGRAMS; programs++) {
+        uint32_t stop = any(4) ? NO_STOP : any(4096);
+        uint32_t run_answer, step_reason = 2;
+        uint64_t steps = 0;
+
+        fresh_with(any(8));
+        for (unsigned address = 0; address < 4096; address++)
+            put(address, any_word());
+        for (int at = 0; at < EVENTS; at++) {
+            unsigned kind = any(16);
+
+            script[at] = kind < 11 ? CYCLE : kind < 12 ? BASE_PULSE : kind < 13 ? WATCHDOG_PULSE
+                         : any(60) ? (uint8_t)(0x10 + any(0x40)) : RESET_PIN;
+        }
+        for (unsigned address = 0x020; address < 0x170; address++)
+            memory[address] = (uint8_t)any(16);
+        memory[0x000] = (uint8_t)any(16);
+        memory[0x002] = (uint8_t)any(16);
+        memory[0x003] = (uint8_t)any(16);
+        set_two(R_PC, any(4096));
+        record[R_T0_COUNTER] = 250;
+        set_two(R_WATCHDOG, 1 + any(40));
+        memcpy(memory_then, memory, sizeof memory);
+        memcpy(record_then, record, sizeof record);
+        for (int at = 0; at < EVENTS; at++) {
+            uint32_t refusal = step(script[at]);
+
+            if (refusal == 6) {
+                step_reason = 1;
+                break;
+            }
+            if (refusal != 0)
+                not_lendable++;
+            steps++;
+            if (script[at] == CYCLE && two(R_PC) == stop) {
+                step_reason = 0;
+                break;
+            }
+        }
+        uint8_t memory_by_steps[1024], record_by_steps[37];
+        memcpy(memory_by_steps, memory, sizeof memory);
+        memcpy(record_by_steps, record, sizeof record);
+        memcpy(memory, memory_then, sizeof memory);
+        memcpy(record, record_then, sizeof record);
+        run_answer = run(script, EVENTS, stop);
+        wrong_reason += reason != step_reason || run_answer != (step_reason == 1 ? 6u : 0u);
+        wrong_count += done_events != steps;
+        differ += memcmp(memory, memory_by_steps, sizeof memory) != 0
+                  || memcmp(record, record_by_steps, sizeof record) != 0;
+    }
+    is("runs that leave another state than their steps", differ, 0);
+    is("runs with another reason", wrong_reason, 0);
+    is("runs with another count", wrong_count, 0);
+    is("states that can't be lent again", not_lendable, 0);
+}
+
+int main(void)
+{
+    twelve_numbers();
+    words();
+    arithmetic();
+    branches();
+    stack();
+    pointer();
+    cells();
+    ports();
+    timer0();
+    base_timer();
+    watchdog();
+    resets();
+    interrupts();
+    asleep();
+    rom_read();
+    edges();
+    runs();
+    memory_refusals();
+    record_refusals();
+    call_refusals();
+    writers();
+    levels();
+    pictures();
+    books();
+    many_programs();
+    printf("%lu passed, %lu failed\n", passed, failed);
+    return failed == 0 ? EXIT_SUCCESS : EXIT_FAILURE;
+}
