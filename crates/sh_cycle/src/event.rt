@@ -1,0 +1,98 @@
+// Events: which bytes they are, and what each does.
+use crate::cycle;
+use crate::cycle::Outcome;
+use crate::ports;
+use sh_parts::base_timer;
+use sh_parts::request;
+use sh_parts::reset;
+use sh_parts::reset::Column;
+use sh_parts::watchdog;
+use sh_state::machine::Machine;
+use sh_state::map;
+ghost use mathlib.Core.Bool.{false};
+ghost use mathlib.Core.Path.{_≡_};
+ghost use Rattle.sh_state.specs.State.{state};
+ghost use Rattle.sh_cycle.specs.Cycle.{happened};
+ghost use Rattle.sh_cycle.specs.Event.{knownOf, basePulseOf, watchdogPulseOf, pinsOf, otherOf, eventOf};
+
+// Whether a byte is an event.
+pub fn known(e: u8) -> bool
+    ensures { λ r. ⌜ r ≡ knownOf e ⌝ }
+{
+    if e < 0x04 {
+        return true;
+    }
+    if e < 0x10 {
+        return false;
+    }
+    e < 0x50
+}
+
+fn base_pulse(m: Machine, memory: &mut [u8]) -> Machine
+    ensures { λ r. ⌜ state r (now (memory .exit)) ≡ basePulseOf (state m (now (memory .entry))) ⌝ }
+{
+    let v = base_timer::pulsed(m, map::cell(memory, 0x03));
+    request::requested(memory, v.requests);
+    v.machine
+}
+
+fn watchdog_pulse(m: Machine, memory: &mut [u8]) -> Machine
+    ensures { λ r. ⌜ state r (now (memory .exit)) ≡ watchdogPulseOf (state m (now (memory .entry))) ⌝ }
+{
+    if watchdog::expires(m) {
+        return reset::reset(Column::Watchdog, m, memory);
+    }
+    watchdog::counted_down(m)
+}
+
+fn pins(m: Machine, memory: &mut [u8], e: u8) -> Machine
+    ensures { λ r. ⌜ state r (now (memory .exit)) ≡ pinsOf (state m (now (memory .entry))) e ⌝ }
+{
+    if e / 16 == 1 {
+        return ports::port_a(m, memory, e % 16);
+    }
+    if e / 16 == 2 {
+        return ports::port_b(m, memory, e % 16);
+    }
+    if e / 16 == 3 {
+        return ports::port_c(m, memory, e % 16);
+    }
+    if e / 16 == 4 {
+        return ports::with_pin_d(m, e % 16);
+    }
+    m
+}
+
+fn other(m: Machine, memory: &mut [u8], e: u8) -> Machine
+    ensures { λ r. ⌜ state r (now (memory .exit)) ≡ otherOf (state m (now (memory .entry))) e ⌝ }
+{
+    if e == 0x01 {
+        return base_pulse(m, memory);
+    }
+    if e == 0x02 {
+        return watchdog_pulse(m, memory);
+    }
+    if e == 0x03 {
+        return reset::reset(Column::Pin, m, memory);
+    }
+    pins(m, memory, e)
+}
+
+fn no_cycle(m: Machine, memory: &mut [u8], e: u8) -> Outcome
+    ensures { λ r. ⌜ happened (r .stuck) (state (r .machine) (now (memory .exit))) ≡ happened false (otherOf (state m (now (memory .entry))) e) ⌝ }
+{
+    Outcome {
+        stuck: false,
+        machine: other(m, memory, e),
+    }
+}
+
+// One event.
+pub fn event(program: &[u16], m: Machine, memory: &mut [u8], e: u8) -> Outcome
+    ensures { λ r. ⌜ happened (r .stuck) (state (r .machine) (now (memory .exit))) ≡ eventOf (now (program .entry)) (state m (now (memory .entry))) e ⌝ }
+{
+    if e == 0x00 {
+        return cycle::cycle(program, m, memory);
+    }
+    no_cycle(m, memory, e)
+}
