@@ -1,0 +1,20 @@
+-- `words_all::digit`: the same test as the definition.
+use borrow.Author.Needs.{needs}
+use borrow.Author.Tests.{lt-ltb, le-ltb}
+use Rattle.words_all.proofs.digit.Statement.{statement}
+use Rattle.words_all.proofs.digit.Tie as tie
+
+add-result : tie.Need-add-result
+add-result c = search needs
+
+returns : tie.Need-returns
+returns c = search (lt-ltb, le-ltb)
+
+add-result-2 : tie.Need-add-result-2
+add-result-2 c = search needs
+
+returns-2 : tie.Need-returns-2
+returns-2 c = search (lt-ltb, le-ltb)
+
+pub digit-spec : {M : Type 1} → statement M
+digit-spec = tie.close (tie.spec add-result returns add-result-2 returns-2)
