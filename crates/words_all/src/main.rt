@@ -177,19 +177,19 @@ fn hexadecimal_2(line: Line, n: u64) -> Line {
     hexadecimal_1(hexadecimal_1(line, n / 16), n)
 }
 
-// The last hexadecimal digit of a number.
 fn hexadecimal_1(line: Line, n: u64) -> Line {
-    put(line, digit((n % 16) as u8))
+    put(line, digit(n))
 }
 
-// A digit as it is written, upper case from 10 on.
-fn digit(n: u8) -> u8
+// The last hexadecimal digit of a number as it is written.
+fn digit(n: u64) -> u8
     ensures { λ r. ⌜ r ≡ digitOf n ⌝ }
 {
-    if n < 10 {
-        return b'0' + n;
+    let last = (n % 16) as u8;
+    if last < 10 {
+        return b'0' + last;
     }
-    b'A' + (n - 10) % 6
+    b'A' + last - 10
 }
 
 fn empty() -> Line {
