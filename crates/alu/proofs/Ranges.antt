@@ -1,11 +1,11 @@
 -- From values of four bits and a carry of one every result is a value of four bits and a carry of one.
-use Prim.Native.Nat.{ℕ, _+_, _<_}
+use Prim.Native.Nat.{ℕ, _<_}
 use native.Mathlib.Omega.{arith}
 use lib.Bits.{and-lt, or-lt, xor-lt}
 use Rattle.lent.proofs.Laws.{by-lt, by-eq}
 use Rattle.word.specs.declared.Operation.{Operation}
 use Rattle.word.specs.declared.Operation.the-variants.{Adc, Add, Sbc, Sub, Eor, Or, And}
-use Rattle.alu.specs.Alu.{Ranged, addedOf, complement, calculatedOf, loadedOf, sixMoreOf, decimalAddedOf, decimalSubtractedOf, shiftedRightOf}
+use Rattle.alu.specs.Alu.{Ranged, addedOf, complement, calculatedOf, loadedOf, decimalAddedOf, decimalSubtractedOf, shiftedRightOf}
 
 added-range : (x y c : ℕ) → x < 16 → y < 16 → c < 2 → Ranged (addedOf x y c)
 added-range x y c hx hy hc = (omega arith, omega arith)

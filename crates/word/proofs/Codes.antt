@@ -1,6 +1,6 @@
 -- The codes both ways: each operation and condition has a code of its own in its row of 01, and each code of a row is its operation's or condition's.
 use mathlib.Core.Path.{_≡_, refl}
-use mathlib.Core.Bool.{Bool, true}
+use mathlib.Core.Bool.{true}
 use Prim.Native.Nat.{ℕ, _+_, _-_, _<_, _≤_}
 use native.Mathlib.Omega.{arith}
 use lib.Dec.{ltb, eqb}

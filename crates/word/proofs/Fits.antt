@@ -1,12 +1,14 @@
--- An instruction whose fields are in range is a word of 16 bits.
-use mathlib.Core.Path.{_≡_}
-use mathlib.Core.Bool.{true}
-use Prim.Native.Nat.{_<_}
+-- An instruction whose fields are in range is a word of 16 bits; what encoding gives by the outcome of that test.
+use mathlib.Core.Path.{_≡_, _∙_, sym}
+use mathlib.Core.Bool.{Bool, true, false}
+use Prim.Native.Nat.{ℕ, _<_}
 use native.Mathlib.Omega.{arith}
 use borrow.Author.Tests.{ltb-true}
+use Rattle.refusal.specs.declared.Refusal.the-variants.{Field}
 use Rattle.word.specs.declared.Instruction.{Instruction}
 use Rattle.word.specs.declared.Instruction.the-variants.{Accumulator, Memory, Lda, Sta, Immediate, Ldi, Branch, Call, Daa, Das, Rtnw, Rtni, Halt, Stop, Jmp, Shr, Tjmp, Nop}
-use Rattle.word.specs.Word.{inRange, wordOf}
+use Rattle.word.specs.declared.Encoded.{Encoded}
+use Rattle.word.specs.Word.{inRange, wordOf, encodeOf}
 use Rattle.word.proofs.Laws.{both-below}
 use Rattle.word.proofs.Codes.{operation-back, immediate-back, condition-back}
 
@@ -29,3 +31,15 @@ word-fits (Jmp t) e = omega (arith, ltb-true t 4096 e)
 word-fits Shr e = omega arith
 word-fits Tjmp e = omega arith
 word-fits Nop e = omega arith
+
+module _ (i : Instruction) {b : Bool} (test : b ≡ inRange i) where
+  pub tested-fits : {w : ℕ} → b ≡ true → w ≡ wordOf i → w < 65536
+  tested-fits t p = rw p (word-fits i (sym test ∙ t))
+
+  pub tested-word : {w : ℕ} → b ≡ true → w ≡ wordOf i → Encoded.Word w ≡ encodeOf i
+  unfolding encodeOf
+  tested-word t p = rw (p, ← test, t)
+
+  pub tested-field : b ≡ false → Encoded.Refused Field ≡ encodeOf i
+  unfolding encodeOf
+  tested-field t = rw (← test, t)

@@ -1,9 +1,8 @@
 -- Which instruction a word is, and which word an instruction is (003, section 17; 01, "Instruction words").
 use Prim.Native.Nat.{ℕ, _+_, _*_, _/_, _%_}
-use mathlib.Core.Bool.{Bool, true, false}
+use mathlib.Core.Bool.{Bool, true}
 use lib.Dec.{ltb, eqb}
 use Rattle.lent.specs.Lent.{pick, both}
-use Rattle.refusal.specs.declared.Refusal.{Refusal}
 use Rattle.refusal.specs.declared.Refusal.the-variants.{UnlistedWord, Field}
 use Rattle.word.specs.declared.Instruction.{Instruction}
 use Rattle.word.specs.declared.Instruction.the-variants.{Accumulator, Memory, Lda, Sta, Immediate, Ldi, Branch, Call, Daa, Das, Rtnw, Rtni, Halt, Stop, Jmp, Shr, Tjmp, Nop}
@@ -26,8 +25,8 @@ abbrev pub address : ℕ → ℕ
 address w = w % 1024
 
 -- xxx xxxx, bits 6-0: X in bank 0
-abbrev pub low : ℕ → ℕ
-low w = w % 128
+abbrev pub fieldX : ℕ → ℕ
+fieldX w = w % 128
 
 -- iiii, bits 10-7
 abbrev pub immediate : ℕ → ℕ
@@ -37,21 +36,21 @@ immediate w = w / 128 % 16
 abbrev pub target : ℕ → ℕ
 target w = w % 2048
 
--- codes 0-6
+-- accumulator type, codes 0-6: 00ooo 1bbb xxx xxxx with the memory, 00ooo 0bbb xxx xxxx without
 unfoldable pub accumulatorOf : ℕ → Decoded
 accumulatorOf w =
     pick (eqb (memoryBit w) 1) (Decoded.Listed (Memory (operationOf (code w)) (address w)))
     (Decoded.Listed (Accumulator (operationOf (code w)) (address w)))
 
--- code 7
+-- transfer, code 7: 00111 1bbb xxx xxxx is STA, 00111 0bbb xxx xxxx is LDA
 unfoldable pub transferOf : ℕ → Decoded
 transferOf w = pick (eqb (memoryBit w) 1) (Decoded.Listed (Sta (address w))) (Decoded.Listed (Lda (address w)))
 
--- codes 25-27, 30 and 31
+-- what is listed of codes 25-27, 30 and 31
 unfoldable pub controlOf : ℕ → Decoded
 controlOf w =
-    pick (eqb (w / 128) 0x196) (Decoded.Listed (Daa (low w)))  -- 11001 0110 xxx xxxx: $CB00-$CB7F
-    (pick (eqb (w / 128) 0x19A) (Decoded.Listed (Das (low w)))  -- 11001 1010 xxx xxxx: $CD00-$CD7F
+    pick (eqb (w / 128) 0x196) (Decoded.Listed (Daa (fieldX w)))  -- 11001 0110 xxx xxxx: $CB00-$CB7F
+    (pick (eqb (w / 128) 0x19A) (Decoded.Listed (Das (fieldX w)))  -- 11001 1010 xxx xxxx: $CD00-$CD7F
     (pick (eqb (w / 256) 0xD0) (Decoded.Listed (Rtnw (w / 16 % 16) (w % 16)))  -- 11010 000h hhh llll: $D000-$D0FF
     (pick (eqb w 0xD400) (Decoded.Listed Rtni)
     (pick (eqb w 0xD800) (Decoded.Listed Halt)
@@ -61,13 +60,14 @@ controlOf w =
     (pick (eqb w 0xFFFF) (Decoded.Listed Nop)
     (Decoded.Refused (UnlistedWord w))))))))))  -- 01: "Reading an unlisted word also answers 6, with the word"
 
+-- The instruction of a word; a word that is not listed is refused.
 unfoldable pub decodeOf : ℕ → Decoded
 decodeOf w =
-    pick (ltb (code w) 7) (accumulatorOf w)
-    (pick (eqb (code w) 7) (transferOf w)
-    (pick (ltb (code w) 15) (Decoded.Listed (Immediate (immediateOf (code w)) (low w) (immediate w)))
-    (pick (eqb (code w) 15) (Decoded.Listed (Ldi (low w) (immediate w)))
-    (pick (ltb (code w) 24) (Decoded.Listed (Branch (conditionOf (code w)) (target w)))
+    pick (ltb (code w) 7) (accumulatorOf w)  -- 01: codes 0-6
+    (pick (eqb (code w) 7) (transferOf w)  -- code 7
+    (pick (ltb (code w) 15) (Decoded.Listed (Immediate (immediateOf (code w)) (fieldX w) (immediate w)))  -- codes 8-14: 01ooo iiii xxx xxxx
+    (pick (eqb (code w) 15) (Decoded.Listed (Ldi (fieldX w) (immediate w)))  -- code 15: 01111 iiii xxx xxxx
+    (pick (ltb (code w) 24) (Decoded.Listed (Branch (conditionOf (code w)) (target w)))  -- codes 16-23: 10ccc xxxx xxx xxxx
     (pick (eqb (code w) 24) (Decoded.Listed (Call (target w)))  -- 11000 xxxx xxx xxxx: $C000-$C7FF
     (pick (eqb (w / 4096) 14) (Decoded.Listed (Jmp (w % 4096)))  -- 1110p xxxx xxx xxxx: $E000-$EFFF
     (controlOf w)))))))
