@@ -6,7 +6,7 @@ use Prim.Native.Nat.{ℕ, suc, _+_, _/_, _%_, _<_, _≤_}
 use native.Mathlib.Omega.{arith}
 use native.Mathlib.Numerals.{add-one}
 use lib.Dec.{ltb, eqb}
-use lib.ListN.{length, getD, take, drop, set, drop-of-length-le, List·getD-eq-default}
+use lib.ListN.{length, getD, take, drop, set, replicate, drop-of-length-le, List·getD-eq-default}
 use lib.Seq.{drop-cons, set-out, take-suc-set, drop-set-lt, take-all, append-snoc}
 use borrow.Author.Tests.{ltb-true, ltb-false, eqb-true, eqb-false}
 use Rattle.lent.specs.Lent.{pick, at, pairAtOf, pairSetOf, mapFrom}
@@ -67,3 +67,9 @@ module _ (f : ℕ → ℕ → ℕ) (l : List ℕ) (i : ℕ) where
   map-on h =
       let d : drop (suc i) (set l i (f i (at l i))) ≡ drop (suc i) l = drop-set-lt (suc i) l i (f i (at l i)) (omega arith) in
       rw (drop-more l i h, add-one i, take-suc-set l i (f i (at l i)) h, d) (append-snoc (take i l) (f i (at l i)) _)
+
+-- a map to 0
+pub map-zero : (l : List ℕ) (i : ℕ) → mapFrom (λ k v. 0) l i ≡ replicate (length l) 0
+unfolding mapFrom
+map-zero [] i = refl
+map-zero (v ∷ l) i = ap (λ (r : List ℕ). 0 ∷ r) (map-zero l (i + 1))

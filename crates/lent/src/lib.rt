@@ -1,6 +1,6 @@
 // Bytes and words that a caller lends, read and written by total functions: no index is ever asked to be in range.
 ghost use mathlib.Core.Path.{_≡_};
-ghost use lib.ListN.{set};
+ghost use lib.ListN.{length, replicate, set};
 ghost use Rattle.lent.specs.Lent.{at, both, pairAtOf, pairSetOf};
 
 // Whether both hold.
@@ -59,5 +59,16 @@ pub fn pair_set(bytes: &mut [u8], i: usize, v: u16)
     if i < bytes.len() {
         poke(bytes, i, (v / 256 % 256) as u8);
         poke(bytes, i + 1, (v % 256) as u8);
+    }
+}
+
+// Every byte becomes 0.
+pub fn clear(bytes: &mut [u8])
+    ensures { λ r. ⌜ now (bytes .exit) ≡ replicate (length (now (bytes .entry))) 0 ⌝ }
+{
+    let mut i: usize = 0;
+    while i < bytes.len() {
+        bytes[i] = 0;
+        i += 1;
     }
 }
