@@ -1,15 +1,15 @@
 -- Laws on lists past their end, on tests and on one more element that every crate's proofs cite.
 use mathlib.Core.Path.{_≡_, _∙_, refl, ap, sym}
 use mathlib.Core.Bool.{Bool, true, false}
-use mathlib.Core.List.{List, [], _∷_}
+use mathlib.Core.List.{List, [], _∷_, _++_}
 use Prim.Native.Nat.{ℕ, suc, _+_, _/_, _%_, _<_, _≤_}
 use native.Mathlib.Omega.{arith}
 use native.Mathlib.Numerals.{add-one}
 use lib.Dec.{ltb, eqb}
-use lib.ListN.{length, getD, drop, set, List·getD-eq-default}
-use lib.Seq.{drop-cons, set-out}
-use borrow.Author.Tests.{ltb-true, ltb-false, eqb-true, eqb-false}
-use Rattle.lent.specs.Lent.{pick, at, pairAtOf, pairSetOf}
+use lib.ListN.{length, getD, take, drop, set, List·getD-eq-default}
+use lib.Seq.{drop-cons, set-out, take-length, paste}
+use borrow.Author.Tests.{le-ltb, ltb-true, ltb-false, eqb-true, eqb-false}
+use Rattle.lent.specs.Lent.{pick, at, pairAtOf, pairSetOf, pastedOf}
 
 -- what stands past the end is 0
 pub at-past : (l : List ℕ) (i : ℕ) → length l ≤ i → 0 ≡ at l i
@@ -31,6 +31,11 @@ unfolding pairSetOf
 pair-set-past l i v h =
     let k : length l ≤ i + 1 = omega arith in
     rw (set-out l i (v / 256 % 256) h, set-out l (i + 1) (v % 256) k)
+
+-- bytes that fit, all of them copied
+pub pasted-fits : (d : List ℕ) (i : ℕ) (s b : List ℕ) (k : ℕ) → b ≡ paste d i s k → k ≡ length s → i + length s ≤ length d → b ≡ pastedOf d i s
+unfolding pastedOf
+pasted-fits d i s b k e f h = rw (le-ltb (length d) (i + length s) h, e, f, take-length s)
 
 -- what is left from i on: the element there, and what is left from i + 1 on
 pub drop-more : (l : List ℕ) (i : ℕ) → i < length l → drop i l ≡ at l i ∷ drop (i + 1) l
