@@ -1,0 +1,5 @@
+pub mod Outcome
+pub mod Body
+pub mod Book
+pub mod Picture
+pub mod Level
