@@ -1,62 +1,72 @@
--- What a match on a judgement leaves, and the elements of a wiring as a loop finds them.
+-- What a match on a judgement leaves, and a picture as it comes into a room, element by element.
 use mathlib.Core.Path.{_≡_, _∙_, refl, ap, sym}
-use mathlib.Core.Bool.{Bool, true, false}
-use mathlib.Core.List.{List, [], _∷_}
-use Prim.Native.Nat.{ℕ, zero, suc, _+_, _-_, _*_, _/_, _<_, _≤_}
+use mathlib.Core.Bool.{Bool}
+use mathlib.Core.List.{List}
+use Prim.Native.Nat.{ℕ, zero, suc, _+_, _/_, _<_, _≤_}
+use native.Mathlib.Nat.{zero-add, add-zero, div-eq-of-lt, lt-of-lt-of-le}
+use native.Mathlib.Numerals.{add-one}
 use native.Mathlib.Omega.{arith}
-use lib.ListN.{length, take, drop, length-drop, drop-of-length-le}
-use lib.Seq.{take-all, take-nil}
+use lib.ListN.{length, set}
 use lib.Pow.{pow-mono}
-use native.Mathlib.Nat.{div-eq-of-lt, lt-of-lt-of-le}
-use Rattle.lent.specs.Lent.{at}
+use lib.Seq.{paste, paste-suc}
+use borrow.Author.Tests.{lt-ltb, le-ltb}
+use Rattle.lent.specs.Lent.{at, pastedOf}
+use Rattle.refusal.specs.declared.Refusal.the-variants.{Room}
 use Rattle.sh_state.specs.declared.judge.Judged.{Judged}
-use Rattle.panel.specs.declared.book.Parts.{Parts}
-use Rattle.panel.specs.declared.book.Reading.{Reading}
+use Rattle.book.specs.Outcome.{Outcome, outcome}
 use Rattle.panel.specs.declared.level.Levelled.{Levelled}
-use Rattle.panel.specs.Body.{elementFits, elementsFit}
-use Rattle.panel.specs.Book.{partOf, readingOf}
-use Rattle.panel.specs.Picture.{bitOf}
+use Rattle.panel.specs.declared.picture.Drawn.{Drawn}
+use Rattle.panel.specs.declared.picture.Drawn.the-variants.{Elements, Refused}
 use Rattle.panel.specs.Level.{levelledOf}
-
-pub reading-at : {j i : Judged} {r : Reading} (p : Parts) → j ≡ i → r ≡ readingOf i p → r ≡ readingOf j p
-reading-at p e q = q ∙ sym (ap (λ (n : Judged). readingOf n p) e)
+use Rattle.panel.specs.Picture.{bitOf, elementOf, elementsFrom, shownOf, drawOf, drawnOf}
 
 pub levelled-at : {j i : Judged} {r : Levelled} (l : Levelled) → j ≡ i → r ≡ levelledOf i l → r ≡ levelledOf j l
 levelled-at l e q = q ∙ sym (ap (λ (n : Judged). levelledOf n l) e)
 
--- a part of a file that ends too early, and of one that does not
-module _ (l : List ℕ) (offset n : ℕ) where
-  pub part-past : length l < offset → take (length l - length l) (drop (length l) l) ≡ partOf l offset n
-  unfolding partOf
-  part-past h =
-      let e : length l ≤ offset = omega arith in
-      let z : length l - length l ≡ 0 = omega arith in
-      rw (drop-of-length-le l e, take-nil n, z)
-
-  pub part-short : length l - offset < n → take (length l - offset) (drop offset l) ≡ partOf l offset n
-  unfolding partOf
-  part-short h = take-all (length l - offset) (drop offset l) (omega (arith, length-drop offset l)) ∙ sym (take-all n (drop offset l) (omega (arith, length-drop offset l)))
-
-  pub part-whole : take (offset + n - offset) (drop offset l) ≡ partOf l offset n
-  unfolding partOf
-  part-whole = let e : offset + n - offset ≡ n = omega arith in rw e
+pub drawn-at : {j i : Judged} {o : Outcome Drawn} (s r : List ℕ) → j ≡ i → o ≡ drawnOf i s r → o ≡ drawnOf j s r
+drawn-at s r e q = q ∙ sym (ap (λ (n : Judged). drawnOf n s r) e)
 
 -- no byte has a bit beyond the seventh
 pub no-bit : (v b : ℕ) → v < 256 → 8 ≤ b → 0 ≡ bitOf v b
 unfolding bitOf
 no-bit v b h k = rw (div-eq-of-lt (lt-of-lt-of-le h (pow-mono k)))
 
--- the elements from k on: element k, and the elements from k + 1 on
-module _ (l : List ℕ) (n k : ℕ) where
-  pub elements-end : n ≤ k → true ≡ elementsFit l (n - k) k
-  unfolding elementsFit
-  elements-end h = let e : n - k ≡ 0 = omega arith in rw e
+module _ (s r : List ℕ) (n : ℕ) (e : n ≡ length s) where
+  pub draw-short : length r < n → outcome (Refused (Room n)) r ≡ drawOf s r
+  unfolding drawOf
+  draw-short h = rw (lt-ltb (length r) (length s) (omega arith), e)
 
-  module _ (h : k < n) (r : Bool) (e : r ≡ elementFits l k) where
-    pub elements-bad : r ≡ false → false ≡ elementsFit l (n - k) k
-    unfolding elementsFit
-    elements-bad b = let m : n - k ≡ suc (n - (k + 1)) = omega arith in rw (m, ← e, b)
+  pub draw-fits : (b : List ℕ) → n ≤ length r → b ≡ pastedOf r 0 s → outcome (Elements n) b ≡ drawOf s r
+  unfolding drawOf
+  draw-fits b h f = rw (le-ltb (length r) (length s) (omega arith), e, f)
 
-    pub elements-on : r ≡ true → elementsFit l (n - (k + 1)) (k + 1) ≡ elementsFit l (n - k) k
-    unfolding elementsFit
-    elements-on b = let m : n - k ≡ suc (n - (k + 1)) = omega arith in rw (m, ← e, b)
+-- the elements of a picture, by their number
+module _ (lit : Bool) (memory wiring : List ℕ) where
+  elements-length : (n k : ℕ) → length (elementsFrom lit memory wiring n k) ≡ n
+  unfolding elementsFrom
+  elements-length zero k = refl
+  elements-length (suc n) k = ap suc (elements-length n (k + 1))
+
+  elements-at : (n k j : ℕ) → j < n → at (elementsFrom lit memory wiring n k) j ≡ elementOf lit memory wiring (k + j)
+  unfolding elementsFrom
+  elements-at zero k j h = absurd (omega arith)
+  elements-at (suc n) k zero h = rw add-zero
+  elements-at (suc n) k (suc j) h = elements-at n (k + 1) j (omega arith) ∙ ap (elementOf lit memory wiring) (omega arith)
+
+  pub shown-length : length (shownOf lit memory wiring) ≡ length wiring / 3
+  unfolding shownOf
+  shown-length = elements-length (length wiring / 3) 0
+
+  pub shown-at : (k : ℕ) → k < length wiring / 3 → at (shownOf lit memory wiring) k ≡ elementOf lit memory wiring k
+  unfolding shownOf
+  shown-at k h = elements-at (length wiring / 3) 0 k h ∙ ap (elementOf lit memory wiring) (zero-add k)
+
+  -- one more element
+  pub drawn-more : (d b : List ℕ) (k v : ℕ) → k < length wiring / 3 → length wiring / 3 ≤ length d → b ≡ paste d 0 (shownOf lit memory wiring) k
+      → v ≡ elementOf lit memory wiring k → set b k v ≡ paste d 0 (shownOf lit memory wiring) (k + 1)
+  drawn-more d b k v h l e f =
+      let s = shownOf lit memory wiring in
+      let n = shown-length in
+      let z = zero-add k in
+      rw (e, f ∙ sym (shown-at k h), add-one k)
+      (ap (λ (i : ℕ). set (paste d 0 s k) i (at s k)) (sym z) ∙ paste-suc d 0 s k 0 (omega arith) (omega arith))

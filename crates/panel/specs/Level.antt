@@ -10,7 +10,7 @@ use Rattle.sh_state.specs.declared.judge.Judged.the-variants as judged
 use Rattle.sh_state.specs.Judge.{firstOf, memoryJudged}
 use Rattle.panel.specs.declared.level.Levelled.{Levelled}
 use Rattle.panel.specs.declared.level.Levelled.the-variants as levelled
-use Rattle.panel.specs.Body.{highCell, lowCell, groundCode, levelJudged}
+use Rattle.book.specs.Body.{highCell, lowCell, groundCode, levelJudged}
 
 -- "Code = 8 x high + low"
 abbrev pub codeOf : ℕ → ℕ → ℕ

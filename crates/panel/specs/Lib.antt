@@ -1,5 +1,2 @@
-pub mod Outcome
-pub mod Body
-pub mod Book
 pub mod Picture
 pub mod Level

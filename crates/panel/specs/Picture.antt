@@ -12,8 +12,8 @@ use Rattle.sh_state.specs.Judge.{firstOf, stateJudged}
 use Rattle.sh_state.specs.State.{State}
 use Rattle.panel.specs.declared.picture.Drawn.{Drawn}
 use Rattle.panel.specs.declared.picture.Drawn.the-variants as drawn
-use Rattle.panel.specs.Outcome.{Outcome, outcome}
-use Rattle.panel.specs.Body.{elementAddress, elementBit, wiringJudged}
+use Rattle.book.specs.Outcome.{Outcome, outcome}
+use Rattle.book.specs.Body.{elementAddress, elementBit, wiringJudged}
 
 -- a bit of a cell
 unfoldable pub bitOf : ℕ → ℕ → ℕ

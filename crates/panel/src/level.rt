@@ -1,5 +1,5 @@
 // The level: two octal digits of the memory, around the ground stop; basements are negative.
-use crate::body;
+use book::body;
 use refusal::Refusal;
 use sh_state::judge;
 use sh_state::judge::Judged;

@@ -1,5 +1,3 @@
-// Panel books, the picture that a wiring shows, and the level that a display's digits tell.
-pub mod body;
-pub mod book;
+// What a panel shows: the picture of a wiring, and the level that two digits tell.
 pub mod level;
 pub mod picture;

@@ -1,5 +1,5 @@
 // The picture: one byte, 0 or 1, for each element of a wiring.
-use crate::body;
+use book::body;
 use refusal::Refusal;
 use sh_state::judge;
 use sh_state::judge::Judged;
@@ -9,7 +9,7 @@ ghost use mathlib.Core.Path.{_≡_};
 ghost use Prim.Native.Nat.{_*_, _+_, _<_};
 ghost use lib.ListN.{length};
 ghost use Rattle.sh_state.specs.State.{state};
-ghost use Rattle.panel.specs.Outcome.{outcome};
+ghost use Rattle.book.specs.Outcome.{outcome};
 ghost use Rattle.panel.specs.Picture.{bitOf, litOf, shownAt, elementOf, shownOf, drawOf, pictureOf};
 
 const LCD: u16 = 0x007;

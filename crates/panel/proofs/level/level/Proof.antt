@@ -2,7 +2,7 @@
 use mathlib.Core.Path.{_≡_, refl}
 use Rattle.sh_state.specs.declared.judge.Judged.the-variants.{Fine, Refused}
 use Rattle.sh_state.specs.Judge.{firstOf, memoryJudged}
-use Rattle.panel.specs.Body.{levelJudged}
+use Rattle.book.specs.Body.{levelJudged}
 use Rattle.panel.specs.Level.{levelOf, levelledOf}
 use Rattle.panel.proofs.Laws.{levelled-at}
 use borrow.Author.Needs.{needs}

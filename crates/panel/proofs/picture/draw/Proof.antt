@@ -6,7 +6,7 @@ use lib.ListN.{length, length-set}
 use lib.Seq.{paste, paste-zero}
 use Rattle.lent.proofs.Laws.{pasted-fits}
 use Rattle.panel.specs.Picture.{shownOf}
-use Rattle.panel.proofs.Puts.{shown-length, drawn-more, draw-short, draw-fits}
+use Rattle.panel.proofs.Laws.{shown-length, drawn-more, draw-short, draw-fits}
 use Rattle.panel.proofs.picture.draw.Statement.{statement}
 use Rattle.panel.proofs.picture.draw.Tie as tie
 

@@ -4,9 +4,9 @@ use mathlib.Core.Bool.{Bool}
 use Rattle.sh_state.specs.declared.judge.Judged.the-variants.{Fine, Refused}
 use Rattle.sh_state.specs.Judge.{firstOf, stateJudged}
 use Rattle.sh_state.specs.State.{state}
-use Rattle.panel.specs.Body.{wiringJudged}
+use Rattle.book.specs.Body.{wiringJudged}
 use Rattle.panel.specs.Picture.{shownOf, drawOf, drawnOf, pictureOf}
-use Rattle.panel.proofs.Puts.{drawn-at}
+use Rattle.panel.proofs.Laws.{drawn-at}
 use borrow.Author.Needs.{needs}
 use Rattle.panel.proofs.picture.picture.Statement.{statement}
 use Rattle.panel.proofs.picture.picture.Tie as tie
