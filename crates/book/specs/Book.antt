@@ -1,12 +1,11 @@
 -- A panel book as a file (01, "Panel book"): what its contents say, what it is turned down for, and how it is written.
-use Prim.Native.Nat.{ℕ, _+_, _/_, _%_, _≤_}
+use Prim.Native.Nat.{ℕ, _+_, _/_, _%_, _≤_, _<_}
 use mathlib.Core.Path.{_≡_}
 use mathlib.Core.Bool.{Bool}
 use mathlib.Core.List.{List, [], _∷_, _++_}
 use lib.Dec.{ltb, eqb}
 use lib.ListN.{length, take, drop}
 use Rattle.lent.specs.Lent.{pick, both, at, pairAtOf, pastedOf}
-use Rattle.refusal.specs.declared.Refusal.{Refusal}
 use Rattle.refusal.specs.declared.Refusal.the-variants as refusal
 use Rattle.sh_state.specs.declared.judge.Judged.{Judged}
 use Rattle.sh_state.specs.declared.judge.Judged.the-variants as judged
@@ -148,3 +147,19 @@ writtenOf (judged.Refused why) book room = outcome (written.Refused why) room
 unfoldable pub writeOf : List ℕ → List ℕ → List ℕ → List ℕ → Outcome Written
 writeOf program wiring level room =
     writtenOf (bodiesJudged program wiring level) (bookOf program wiring level) room
+
+-- a body of a file, by its place
+abbrev pub bodyIn : List ℕ → Place → List ℕ
+bodyIn l p = partOf l (p .offset) (p .length)
+
+-- a file that is accepted, and its three bodies
+pub record Holds (l p w v : List ℕ) : Type 0 where
+  pub parts : Parts
+  pub reads : readOf l ≡ reading.Parts parts
+  pub program : bodyIn l (parts .program) ≡ p
+  pub wiring : bodyIn l (parts .wiring) ≡ w
+  pub level : bodyIn l (parts .level) ≡ v
+
+-- a list of bytes
+abbrev pub AllBytes : List ℕ → Type 0
+AllBytes l = (i : ℕ) → at l i < 256

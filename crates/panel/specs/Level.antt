@@ -2,7 +2,7 @@
 use Prim.Native.Nat.{ℕ, _+_, _*_}
 use mathlib.Core.List.{List}
 use lib.Dec.{ltb}
-use lib.IntN.{ℤ, pos, _-ℤ_}
+use lib.IntN.{pos, _-ℤ_}
 use Rattle.lent.specs.Lent.{pick, at}
 use Rattle.refusal.specs.declared.Refusal.the-variants as refusal
 use Rattle.sh_state.specs.declared.judge.Judged.{Judged}
