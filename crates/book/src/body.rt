@@ -8,11 +8,11 @@ ghost use Prim.Native.Nat.{_*_, _+_, _<_};
 ghost use lib.ListN.{length};
 ghost use Rattle.book.specs.Body.{wiringLengthFits, lengthFits, elementFits, wiringFits, levelFits, told, wiringJudged, levelJudged, valuesJudged};
 
-pub const PROGRAM: u8 = 1;
+pub(crate) const PROGRAM: u8 = 1;
 
-pub const WIRING: u8 = 2;
+pub(crate) const WIRING: u8 = 2;
 
-pub const LEVEL: u8 = 3;
+pub(crate) const LEVEL: u8 = 3;
 
 // Whether this many bytes are 1-240 elements of 3.
 fn wiring_length_fits(n: usize) -> bool
@@ -28,7 +28,7 @@ fn wiring_length_fits(n: usize) -> bool
 }
 
 // Whether a kind takes a body of this many bytes.
-pub fn length_fits(kind: u8, n: usize) -> bool
+pub(crate) fn length_fits(kind: u8, n: usize) -> bool
     ensures { λ r. ⌜ r ≡ lengthFits kind n ⌝ }
 {
     if kind == PROGRAM {
@@ -54,7 +54,7 @@ fn element_fits(wiring: &[u8], k: usize) -> bool
 }
 
 // Whether every element of a kind 2 body keeps its rule.
-pub fn wiring_fits(wiring: &[u8]) -> bool
+fn wiring_fits(wiring: &[u8]) -> bool
     ensures { λ r. ⌜ r ≡ wiringFits (now (wiring .entry)) ⌝ }
 {
     let n = wiring.len() / 3;
@@ -69,7 +69,7 @@ pub fn wiring_fits(wiring: &[u8]) -> bool
 }
 
 // Whether a kind 3 body has two different cells of data, display or scan and a ground code.
-pub fn level_fits(level: &[u8]) -> bool
+fn level_fits(level: &[u8]) -> bool
     ensures { λ r. ⌜ r ≡ levelFits (now (level .entry)) ⌝ }
 {
     let high = lent::pair_at(level, 0);
@@ -80,7 +80,7 @@ pub fn level_fits(level: &[u8]) -> bool
 }
 
 // A judgement by one test.
-pub fn told(fits: bool, why: Refusal) -> Judged
+pub(crate) fn told(fits: bool, why: Refusal) -> Judged
     ensures { λ r. ⌜ r ≡ told fits why ⌝ }
 {
     if fits {
@@ -90,7 +90,7 @@ pub fn told(fits: bool, why: Refusal) -> Judged
 }
 
 // The values of the bodies of kinds 2 and 3, the lowest kind first.
-pub fn values(wiring: &[u8], level: &[u8]) -> Judged
+pub(crate) fn values(wiring: &[u8], level: &[u8]) -> Judged
     ensures { λ r. ⌜ r ≡ valuesJudged (now (wiring .entry)) (now (level .entry)) ⌝ }
 {
     judge::first(
