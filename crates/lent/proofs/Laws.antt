@@ -4,12 +4,13 @@ use mathlib.Core.Bool.{Bool, true, false}
 use mathlib.Core.List.{List, [], _∷_, _++_, append-nil}
 use Prim.Native.Nat.{ℕ, suc, _+_, _/_, _%_, _<_, _≤_}
 use native.Mathlib.Omega.{arith}
+use native.Mathlib.Nat.{zero-add}
 use native.Mathlib.Numerals.{add-one}
 use lib.Dec.{ltb, eqb}
-use lib.ListN.{length, getD, take, drop, set, replicate, drop-of-length-le, List·getD-eq-default}
-use lib.Seq.{drop-cons, set-out, take-suc-set, drop-set-lt, take-all, append-snoc}
-use borrow.Author.Tests.{ltb-true, ltb-false, eqb-true, eqb-false}
-use Rattle.lent.specs.Lent.{pick, at, pairAtOf, pairSetOf, mapFrom}
+use lib.ListN.{length, getD, take, drop, set, replicate, drop-of-length-le, length-append, length-drop, List·getD-eq-default}
+use lib.Seq.{drop-cons, set-out, take-suc-set, drop-set-lt, take-all, append-snoc, take-length, take-append-seam, drop-append-add, drop-drop, paste}
+use borrow.Author.Tests.{le-ltb, ltb-true, ltb-false, eqb-true, eqb-false}
+use Rattle.lent.specs.Lent.{pick, both, at, pairAtOf, pairSetOf, pastedOf, mapFrom}
 
 -- what stands past the end is 0
 pub at-past : (l : List ℕ) (i : ℕ) → length l ≤ i → 0 ≡ at l i
@@ -32,6 +33,29 @@ pair-set-past l i v h =
     let k : length l ≤ i + 1 = omega arith in
     rw (set-out l i (v / 256 % 256) h, set-out l (i + 1) (v % 256) k)
 
+-- bytes that fit, all of them copied
+pub pasted-fits : (d : List ℕ) (i : ℕ) (s b : List ℕ) (k : ℕ) → b ≡ paste d i s k → k ≡ length s → i + length s ≤ length d → b ≡ pastedOf d i s
+unfolding pastedOf
+pasted-fits d i s b k e f h = rw (le-ltb (length d) (i + length s) h, e, f, take-length s)
+
+-- bytes at the front
+pub pasted-front : (d s : List ℕ) → length s ≤ length d → pastedOf d 0 s ≡ s ++ drop (length s) d
+unfolding pastedOf
+pasted-front d s h = rw (zero-add, le-ltb (length d) (length s) h)
+
+-- bytes behind bytes at the front are the bytes of both at the front
+behind-front : (d a s : List ℕ) → length a + length s ≤ length d → pastedOf (a ++ drop (length a) d) (length a) s ≡ (a ++ s) ++ drop (length (a ++ s)) d
+unfolding pastedOf
+behind-front d a s h =
+    let k : length a + length s ≤ length (a ++ drop (length a) d) = omega (arith, length-append a (drop (length a) d), length-drop (length a) d) in
+    rw (le-ltb (length (a ++ drop (length a) d)) (length a + length s) k, take-append-seam, drop-append-add, drop-drop, length-append)
+
+pub pasted-on : (d a s : List ℕ) (i : ℕ) → length a ≡ i → i + length s ≤ length d → pastedOf (pastedOf d 0 a) i s ≡ pastedOf d 0 (a ++ s)
+pasted-on d a s i e h =
+    ap (λ (l : List ℕ). pastedOf l i s) (pasted-front d a (omega arith))
+    ∙ (ap (λ (k : ℕ). pastedOf (a ++ drop (length a) d) k s) (sym e)
+    ∙ (behind-front d a s (omega arith) ∙ sym (pasted-front d (a ++ s) (omega (arith, length-append a s)))))
+
 -- what is left from i on: the element there, and what is left from i + 1 on
 pub drop-more : (l : List ℕ) (i : ℕ) → i < length l → drop i l ≡ at l i ∷ drop (i + 1) l
 drop-more l i h = rw (add-one i, drop-cons l i 0)
@@ -40,6 +64,14 @@ drop-more l i h = rw (add-one i, drop-cons l i 0)
 pub test : (b : Bool) {P : Type 0} → (b ≡ true → P) → (b ≡ false → P) → P
 test true f g = f refl
 test false f g = g refl
+
+-- both hold where each does
+pub both-true : (a b : Bool) → both a b ≡ true → (a ≡ true) × (b ≡ true)
+both-true true b e = (refl, e)
+both-true false b e = absurd (apart e)
+  where
+    apart : false ≡ true → ⊥
+    apart e = let z : _≡_ {A = ℕ} 0 1 = cc in omega arith
 
 -- what holds of both choices holds of the choice
 pub by-lt : {A : Type 0} (P : A → Type 0) (m n : ℕ) (x y : A) → (m < n → P x) → (n ≤ m → P y) → P (pick (ltb m n) x y)

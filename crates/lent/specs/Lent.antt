@@ -1,8 +1,9 @@
 -- What lent bytes and words hold and are left with, for every index: what stands past the end reads as 0, and a store there does nothing.
 use Prim.Native.Nat.{ℕ, _+_, _*_, _/_, _%_}
 use mathlib.Core.Bool.{Bool, true, false}
-use mathlib.Core.List.{List, [], _∷_}
-use lib.ListN.{getD, set}
+use mathlib.Core.List.{List, [], _∷_, _++_}
+use lib.Dec.{ltb}
+use lib.ListN.{length, getD, set, take, drop}
 
 -- the first where the test holds, else the second
 abbrev pub pick : {A : Type 0} → Bool → A → A → A
@@ -24,6 +25,10 @@ pairAtOf l i = 256 * at l i + at l (i + 1)
 -- a number in two bytes, high byte first
 unfoldable pub pairSetOf : List ℕ → ℕ → ℕ → List ℕ
 pairSetOf l i v = set (set l i (v / 256 % 256)) (i + 1) (v % 256)
+
+-- the bytes `from` in place of as many from i on; nothing where they do not fit
+unfoldable pub pastedOf : List ℕ → ℕ → List ℕ → List ℕ
+pastedOf l i from = pick (ltb (length l) (i + length from)) l (take i l ++ from ++ drop (i + length from) l)
 
 -- each element by its place, from place i on
 unfoldable pub mapFrom : (ℕ → ℕ → ℕ) → List ℕ → ℕ → List ℕ

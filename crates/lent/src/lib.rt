@@ -1,7 +1,7 @@
 // Bytes and words that a caller lends, read and written by total functions: no index is ever asked to be in range.
 ghost use mathlib.Core.Path.{_≡_};
 ghost use lib.ListN.{length, replicate, set};
-ghost use Rattle.lent.specs.Lent.{at, both, pairAtOf, pairSetOf};
+ghost use Rattle.lent.specs.Lent.{at, both, pairAtOf, pairSetOf, pastedOf};
 
 // Whether both hold.
 pub fn both(a: bool, b: bool) -> bool
@@ -59,6 +59,24 @@ pub fn pair_set(bytes: &mut [u8], i: usize, v: u16)
     if i < bytes.len() {
         poke(bytes, i, (v / 256 % 256) as u8);
         poke(bytes, i + 1, (v % 256) as u8);
+    }
+}
+
+// Bytes copied into a part that starts at a place; nothing happens where they do not fit.
+pub fn paste(bytes: &mut [u8], i: usize, from: &[u8])
+    ensures { λ r. ⌜ now (bytes .exit) ≡ pastedOf (now (bytes .entry)) i (now (from .entry)) ⌝ }
+{
+    let n = from.len();
+    if bytes.len() < n {
+        return;
+    }
+    if bytes.len() - n < i {
+        return;
+    }
+    let mut k: usize = 0;
+    while k < n {
+        bytes[i + k] = from[k];
+        k += 1;
     }
 }
 
