@@ -1,0 +1,4 @@
+pub mod Answer
+pub mod Fresh
+pub mod Step
+pub mod Run
