@@ -1,10 +1,10 @@
 // The call fresh: a machine as it leaves its first pin reset.
-use crate::answer::{Answer, Outcome};
+use crate::answer::Answer;
+use crate::answer::Outcome;
 use refusal::Refusal;
 use sh_parts::reset;
 use sh_parts::reset::Column;
 use sh_state::machine::Machine;
-
 ghost use mathlib.Core.Path.{_≡_};
 ghost use Rattle.sh_state.specs.Record.{freshOf};
 ghost use Rattle.sh_state.specs.State.{state};
@@ -23,13 +23,19 @@ fn made(options: u8, memory: &mut [u8]) -> Answer
     ensures { λ r. ⌜ answered (r .outcome) (state (r .machine) (now (memory .exit))) ≡ answered Outcome.Done (state (freshOf options) (freshMemoryOf options (now (memory .entry)))) ⌝ }
 {
     fresh_memory(options, memory);
-    Answer { outcome: Outcome::Done, machine: Machine::fresh(options) }
+    Answer {
+        outcome: Outcome::Done,
+        machine: Machine::fresh(options),
+    }
 }
 
 fn not_made(memory: &[u8], why: Refusal) -> Answer
     ensures { λ r. ⌜ answered (r .outcome) (state (r .machine) (now (memory .entry))) ≡ refused why (state (freshOf 0) (now (memory .entry))) ⌝ }
 {
-    Answer { outcome: Outcome::Refused(why), machine: Machine::fresh(0) }
+    Answer {
+        outcome: Outcome::Refused(why),
+        machine: Machine::fresh(0),
+    }
 }
 
 // A fresh machine of the options given, and its memory in the lent one.

@@ -1,5 +1,6 @@
 // The call run: a script of events.
-use crate::answer::{Reason, RunAnswer};
+use crate::answer::Reason;
+use crate::answer::RunAnswer;
 use refusal::Refusal;
 use sh_cycle::event;
 use sh_run::Stop;
@@ -7,7 +8,6 @@ use sh_state::judge;
 use sh_state::judge::Judged;
 use sh_state::machine::Machine;
 use sh_state::rules::Found;
-
 ghost use mathlib.Core.Path.{_≡_};
 ghost use Rattle.sh_state.specs.Judge.{stateJudged};
 ghost use Rattle.sh_state.specs.State.{state};
@@ -31,7 +31,11 @@ fn told(program: &[u16], m: Machine, memory: &mut [u8], script: &[u8], target: u
     let e = sh_run::run(program, m, memory, script, target);
     let n = e.machine;
     let why = e.why;
-    RunAnswer { reason: reason(why, n), events: e.events, machine: n }
+    RunAnswer {
+        reason: reason(why, n),
+        events: e.events,
+        machine: n,
+    }
 }
 
 // The first place of a byte that is no event.
@@ -48,31 +52,65 @@ pub fn first_unknown(script: &[u8]) -> Found
     Found::Nothing
 }
 
-fn run_found(program: &[u16], m: Machine, memory: &mut [u8], script: &[u8], target: u32, f: Found) -> RunAnswer
+fn run_found(
+    program: &[u16],
+    m: Machine,
+    memory: &mut [u8],
+    script: &[u8],
+    target: u32,
+    f: Found,
+) -> RunAnswer
     ensures { λ r. ⌜ runAnswered (r .reason) (r .events) (state (r .machine) (now (memory .exit))) ≡ runFoundOf (now (program .entry)) (state m (now (memory .entry))) (now (script .entry)) target f ⌝ }
 {
     match f {
-        Found::At(i) => RunAnswer { reason: Reason::Refused(Refusal::UnknownEvent(i as u64)), events: 0, machine: m },
+        Found::At(i) => RunAnswer {
+            reason: Reason::Refused(Refusal::UnknownEvent(i as u64)),
+            events: 0,
+            machine: m,
+        },
         Found::Nothing => told(program, m, memory, script, target),
     }
 }
 
-fn run_known(program: &[u16], m: Machine, memory: &mut [u8], script: &[u8], target: u32) -> RunAnswer
+fn run_known(
+    program: &[u16],
+    m: Machine,
+    memory: &mut [u8],
+    script: &[u8],
+    target: u32,
+) -> RunAnswer
     ensures { λ r. ⌜ runAnswered (r .reason) (r .events) (state (r .machine) (now (memory .exit))) ≡ runFoundOf (now (program .entry)) (state m (now (memory .entry))) (now (script .entry)) target (unknownFrom (now (script .entry)) 0) ⌝ }
 {
     run_found(program, m, memory, script, target, first_unknown(script))
 }
 
-fn run_judged(program: &[u16], m: Machine, memory: &mut [u8], script: &[u8], target: u32, j: Judged) -> RunAnswer
+fn run_judged(
+    program: &[u16],
+    m: Machine,
+    memory: &mut [u8],
+    script: &[u8],
+    target: u32,
+    j: Judged,
+) -> RunAnswer
     ensures { λ r. ⌜ runAnswered (r .reason) (r .events) (state (r .machine) (now (memory .exit))) ≡ runJudgedOf (now (program .entry)) (state m (now (memory .entry))) (now (script .entry)) target j ⌝ }
 {
     match j {
         Judged::Fine => run_known(program, m, memory, script, target),
-        Judged::Refused(why) => RunAnswer { reason: Reason::Refused(why), events: 0, machine: m },
+        Judged::Refused(why) => RunAnswer {
+            reason: Reason::Refused(why),
+            events: 0,
+            machine: m,
+        },
     }
 }
 
-fn run_by_judge(program: &[u16], m: Machine, memory: &mut [u8], script: &[u8], target: u32) -> RunAnswer
+fn run_by_judge(
+    program: &[u16],
+    m: Machine,
+    memory: &mut [u8],
+    script: &[u8],
+    target: u32,
+) -> RunAnswer
     ensures { λ r. ⌜ runAnswered (r .reason) (r .events) (state (r .machine) (now (memory .exit))) ≡ runJudgedOf (now (program .entry)) (state m (now (memory .entry))) (now (script .entry)) target (stateJudged (state m (now (memory .entry)))) ⌝ }
 {
     let j = judge::machine(m, memory);
@@ -85,7 +123,11 @@ pub fn run(program: &[u16], m: Machine, memory: &mut [u8], script: &[u8], target
 {
     let n = program.len();
     if n != Machine::WORDS {
-        return RunAnswer { reason: Reason::Refused(Refusal::ProgramLength(n as u64)), events: 0, machine: m };
+        return RunAnswer {
+            reason: Reason::Refused(Refusal::ProgramLength(n as u64)),
+            events: 0,
+            machine: m,
+        };
     }
     run_by_judge(program, m, memory, script, target)
 }

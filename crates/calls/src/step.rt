@@ -1,11 +1,11 @@
 // The call step: one event.
-use crate::answer::{Answer, Outcome};
+use crate::answer::Answer;
+use crate::answer::Outcome;
 use refusal::Refusal;
 use sh_cycle::event;
 use sh_state::judge;
 use sh_state::judge::Judged;
 use sh_state::machine::Machine;
-
 ghost use mathlib.Core.Path.{_≡_};
 ghost use Rattle.sh_state.specs.State.{state};
 ghost use Rattle.sh_cycle.specs.Event.{eventOf};
@@ -18,9 +18,15 @@ fn told(program: &[u16], m: Machine, memory: &mut [u8], e: u8) -> Answer
     let o = event::event(program, m, memory, e);
     let n = o.machine;
     if o.stuck {
-        return Answer { outcome: Outcome::Refused(Refusal::UnlistedWord(n.pc as u64)), machine: n };
+        return Answer {
+            outcome: Outcome::Refused(Refusal::UnlistedWord(n.pc as u64)),
+            machine: n,
+        };
     }
-    Answer { outcome: Outcome::Done, machine: n }
+    Answer {
+        outcome: Outcome::Done,
+        machine: n,
+    }
 }
 
 fn stepped(program: &[u16], m: Machine, memory: &mut [u8], e: u8) -> Answer
@@ -29,7 +35,10 @@ fn stepped(program: &[u16], m: Machine, memory: &mut [u8], e: u8) -> Answer
     if event::known(e) {
         return told(program, m, memory, e);
     }
-    Answer { outcome: Outcome::Refused(Refusal::UnknownEvent(0)), machine: m }
+    Answer {
+        outcome: Outcome::Refused(Refusal::UnknownEvent(0)),
+        machine: m,
+    }
 }
 
 fn step_judged(program: &[u16], m: Machine, memory: &mut [u8], e: u8, j: Judged) -> Answer
@@ -37,7 +46,10 @@ fn step_judged(program: &[u16], m: Machine, memory: &mut [u8], e: u8, j: Judged)
 {
     match j {
         Judged::Fine => stepped(program, m, memory, e),
-        Judged::Refused(why) => Answer { outcome: Outcome::Refused(why), machine: m },
+        Judged::Refused(why) => Answer {
+            outcome: Outcome::Refused(why),
+            machine: m,
+        },
     }
 }
 
@@ -56,7 +68,10 @@ pub fn step(program: &[u16], m: Machine, memory: &mut [u8], e: u8) -> Answer
 {
     let n = program.len();
     if n != Machine::WORDS {
-        return Answer { outcome: Outcome::Refused(Refusal::ProgramLength(n as u64)), machine: m };
+        return Answer {
+            outcome: Outcome::Refused(Refusal::ProgramLength(n as u64)),
+            machine: m,
+        };
     }
     step_by_judge(program, m, memory, e)
 }

@@ -1,0 +1,34 @@
+-- `calls::run::reason`: by the stop.
+use Rattle.calls.specs.Run.{reasonOf}
+use Rattle.calls.proofs.Laws.{reason-at}
+use borrow.Author.Needs.{needs}
+use Rattle.calls.proofs.run.reason.Statement.{statement}
+use Rattle.calls.proofs.run.reason.Tie as tie
+
+enum-told : tie.Need-enum-told
+enum-told c = search needs
+
+enum-told-2 : tie.Need-enum-told-2
+enum-told-2 c = search needs
+
+cast-t4 : tie.Need-cast-t4
+cast-t4 c = search needs
+
+enum-told-3 : tie.Need-enum-told-3
+enum-told-3 c = search needs
+
+returns : tie.Need-returns
+unfolding reasonOf
+returns c = search reason-at
+
+returns-2 : tie.Need-returns-2
+unfolding reasonOf
+returns-2 c = search reason-at
+
+returns-3 : tie.Need-returns-3
+unfolding reasonOf
+returns-3 c = search reason-at
+
+pub reason-spec : {M : Type 1} → statement M
+reason-spec =
+    tie.close (tie.spec enum-told enum-told-2 cast-t4 enum-told-3 returns returns-2 returns-3)
