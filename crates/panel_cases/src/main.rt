@@ -30,17 +30,17 @@ fn text(s: &[u8]) {
     io::write_all(STDOUT_FILENO, s);
 }
 
-fn number(n: u64) {
+// A number between two texts.
+fn said(before: &[u8], n: u64, after: &[u8]) {
+    io::write_all(STDOUT_FILENO, before);
     io::print_decimal(STDOUT_FILENO, n);
+    io::write_all(STDOUT_FILENO, after);
 }
 
 // A refusal's number and value, and the line's end.
 fn refused(why: Refusal) {
-    text(b"refused ");
-    number(refusal::number(why) as u64);
-    text(b" ");
-    number(refusal::value(why));
-    text(b"\n");
+    said(b"refused ", refusal::number(why) as u64, b" ");
+    said(b"", refusal::value(why), b"\n");
 }
 
 // The book: NOP in every word of the program, elements at $300 bit 0 and $348 bit 3, digits at $020 and $021, ground 2.
@@ -62,11 +62,8 @@ fn by_hand() -> [u8; LENGTH] {
 // Where a body lies.
 fn place(name: &[u8], p: book::Place) {
     text(name);
-    text(b" at ");
-    number(p.offset as u64);
-    text(b", ");
-    number(p.length as u64);
-    text(b" bytes\n");
+    said(b" at ", p.offset as u64, b", ");
+    said(b"", p.length as u64, b" bytes\n");
 }
 
 fn reads() {
@@ -91,11 +88,8 @@ fn told(r: Reading) {
 
 // The book with one byte changed.
 fn damaged(at: usize, v: u8) {
-    text(b"byte ");
-    number(at as u64);
-    text(b" as ");
-    number(v as u64);
-    text(b": ");
+    said(b"byte ", at as u64, b" as ");
+    said(b"", v as u64, b": ");
     let mut file = by_hand();
     lent::poke(&mut file, at, v);
     told(book::read(&file));
@@ -147,11 +141,8 @@ fn every_value(at: usize) -> u64
 fn damaged_contents() {
     let mut at: usize = 0;
     while at < 16 {
-        text(b"byte ");
-        number(at as u64);
-        text(b": refused by 10 with ");
-        number(every_value(at));
-        text(b" other values\n");
+        said(b"byte ", at as u64, b": refused by 10 with ");
+        said(b"", every_value(at), b" other values\n");
         at += 1;
     }
     damaged(0, 4);
@@ -190,11 +181,8 @@ fn damaged_level() {
 
 // Two bytes changed, of two bodies or of a body and the contents.
 fn damaged_twice(at: usize, v: u8, other: usize, w: u8) {
-    text(b"bytes ");
-    number(at as u64);
-    text(b" and ");
-    number(other as u64);
-    text(b": ");
+    said(b"bytes ", at as u64, b" and ");
+    said(b"", other as u64, b": ");
     let mut file = by_hand();
     lent::poke(&mut file, at, v);
     lent::poke(&mut file, other, w);
@@ -225,11 +213,7 @@ fn yes(is: bool) {
 
 fn written(w: Written) {
     match w {
-        Written::Bytes(n) => {
-            text(b"bytes ");
-            number(n as u64);
-            text(b"\n");
-        }
+        Written::Bytes(n) => said(b"bytes ", n as u64, b"\n"),
         Written::Refused(why) => refused(why),
     }
 }
@@ -254,7 +238,6 @@ fn writes() {
 // A write that is refused, and whether the room is as it was.
 fn refused_write(name: &[u8], program: &[u8], wiring: &[u8], level: &[u8]) {
     text(name);
-    text(b": ");
     let mut room = [7; 8218];
     written(book::write(program, wiring, level, &mut room));
     text(b"the room as before: ");
@@ -266,32 +249,32 @@ fn refused_writes() {
     let short = [0xFF; 8191];
     let wiring = b"\x03\x00\x00\x03\x48\x03";
     let level = b"\x00\x20\x00\x21\x02";
-    refused_write(b"room of 8218", &program, wiring, level);
-    refused_write(b"240 elements", &program, &[3; 720], level);
-    refused_write(b"241 elements", &program, &[3; 723], level);
-    refused_write(b"no element", &program, b"", level);
+    refused_write(b"room of 8218: ", &program, wiring, level);
+    refused_write(b"240 elements: ", &program, &[3; 720], level);
+    refused_write(b"241 elements: ", &program, &[3; 723], level);
+    refused_write(b"no element: ", &program, b"", level);
     refused_write(
-        b"7 bytes of wiring",
+        b"7 bytes of wiring: ",
         &program,
         b"\x03\x00\x00\x03\x48\x03\x03",
         level,
     );
-    refused_write(b"8191 bytes of program", &short, wiring, level);
-    refused_write(b"4 bytes of level", &program, wiring, b"\x00\x20\x00\x21");
+    refused_write(b"8191 bytes of program: ", &short, wiring, level);
+    refused_write(b"4 bytes of level: ", &program, wiring, b"\x00\x20\x00\x21");
     more_refused_writes(&program, wiring, level);
 }
 
 fn more_refused_writes(program: &[u8], wiring: &[u8], level: &[u8]) {
-    refused_write(b"bit 4", program, b"\x03\x00\x04", level);
-    refused_write(b"equal cells", program, wiring, b"\x00\x20\x00\x20\x02");
+    refused_write(b"bit 4: ", program, b"\x03\x00\x04", level);
+    refused_write(b"equal cells: ", program, wiring, b"\x00\x20\x00\x20\x02");
     refused_write(
-        b"bit 4 and equal cells",
+        b"bit 4 and equal cells: ",
         program,
         b"\x03\x00\x04",
         b"\x00\x20\x00\x20\x02",
     );
     refused_write(
-        b"bit 4 and 4 bytes of level",
+        b"bit 4 and 4 bytes of level: ",
         program,
         b"\x03\x00\x04",
         b"\x00\x20\x00\x21",
@@ -313,57 +296,53 @@ fn in_mode(m: Machine, mode: u8) -> Machine {
     n
 }
 
-// The answer, and the room of three bytes.
-fn drawn(d: Drawn, room: &[u8]) {
+fn answer(d: Drawn) {
     match d {
-        Drawn::Elements(n) => {
-            text(b"elements ");
-            number(n as u64);
-            text(b", room ");
-        }
-        Drawn::Refused(why) => {
-            refused(why);
-            text(b"  room ");
-        }
+        Drawn::Elements(n) => said(b"elements ", n as u64, b"\n"),
+        Drawn::Refused(why) => refused(why),
     }
-    number(lent::peek(room, 0) as u64);
-    text(b" ");
-    number(lent::peek(room, 1) as u64);
-    text(b" ");
-    number(lent::peek(room, 2) as u64);
-    text(b"\n");
 }
 
-// The picture of $300 bit 0 and $348 bit 3.
-fn pictured(name: &[u8], m: Machine, cells: &[u8], wiring: &[u8]) {
-    text(name);
-    text(b": ");
+// The answer, and the room of three bytes as it is left.
+fn drawn(d: Drawn, room: &[u8]) {
+    answer(d);
+    said(b"  room ", lent::peek(room, 0) as u64, b" ");
+    said(b"", lent::peek(room, 1) as u64, b" ");
+    said(b"", lent::peek(room, 2) as u64, b"\n");
+}
+
+// The picture of a fresh machine in a mode, by a memory that is lent.
+fn picture_of(mode: u8, cells: &[u8], wiring: &[u8]) {
+    let m = in_mode(Machine::fresh(0), mode);
     let mut room = [7; 3];
     let d = panel::picture::picture(m, cells, wiring, &mut room);
     drawn(d, &room);
 }
 
+fn pictured(name: &[u8], mode: u8, lcd: u8, first: u8, second: u8, wiring: &[u8]) {
+    text(name);
+    picture_of(mode, &memory(lcd, first, second), wiring);
+}
+
+// By elements at $300 bit 0 and $348 bit 3.
 fn pictures() {
     let wiring = b"\x03\x00\x00\x03\x48\x03";
-    let m = Machine::fresh(0);
-    pictured(b"both lit", m, &memory(4, 1, 8), wiring);
-    pictured(b"first lit", m, &memory(4, 15, 7), wiring);
-    pictured(b"second lit", m, &memory(4, 14, 15), wiring);
-    pictured(b"LCDON 0", m, &memory(3, 15, 15), wiring);
-    pictured(b"HALT", in_mode(m, 1), &memory(4, 1, 8), wiring);
-    pictured(b"STOP", in_mode(m, 2), &memory(4, 1, 8), wiring);
+    pictured(b"both lit: ", 0, 4, 1, 8, wiring);
+    pictured(b"first lit: ", 0, 4, 15, 7, wiring);
+    pictured(b"second lit: ", 0, 4, 14, 15, wiring);
+    pictured(b"LCDON 0: ", 0, 3, 15, 15, wiring);
+    pictured(b"HALT: ", 1, 4, 1, 8, wiring);
+    pictured(b"STOP: ", 2, 4, 1, 8, wiring);
 }
 
 fn refused_pictures() {
-    let wiring = b"\x03\x00\x00\x03\x48\x03";
-    let bad = b"\x03\x00\x04\x03\x48\x03";
-    let m = Machine::fresh(0);
-    pictured(b"memory of 3", in_mode(m, 3), b"\x10\x10\x10", b"");
-    pictured(b"a cell of 16", in_mode(m, 3), &memory(4, 16, 0), b"");
-    pictured(b"mode 3", in_mode(m, 3), &memory(4, 1, 8), b"");
-    pictured(b"no element", m, &memory(4, 1, 8), b"");
-    pictured(b"bit 4", m, &memory(4, 1, 8), bad);
-    pictured(b"4 elements", m, &memory(4, 1, 8), &[3; 12]);
+    text(b"memory of 3: ");
+    picture_of(3, b"\x10\x10\x10", b"");
+    pictured(b"a cell of 16: ", 3, 4, 16, 0, b"");
+    pictured(b"mode 3: ", 3, 4, 1, 8, b"");
+    pictured(b"no element: ", 0, 4, 1, 8, b"");
+    pictured(b"bit 4: ", 0, 4, 1, 8, b"\x03\x00\x04\x03\x48\x03");
+    pictured(b"4 elements: ", 0, 4, 1, 8, &[3; 12]);
 }
 
 fn minus(k: u8) -> i32 {
@@ -375,39 +354,30 @@ fn signed(z: i32) {
     let mut k: u8 = 0;
     while k < 64 {
         if z == k as i32 {
-            number(k as u64);
+            said(b"level ", k as u64, b"\n");
             return;
         }
         if z == minus(k) {
-            text(b"-");
-            number(k as u64);
+            said(b"level -", k as u64, b"\n");
             return;
         }
         k += 1;
     }
-    text(b"none");
+    text(b"beyond 63\n");
 }
 
 fn levelled(l: Levelled) {
     match l {
-        Levelled::Level(z) => {
-            text(b"level ");
-            signed(z);
-            text(b"\n");
-        }
+        Levelled::Level(z) => signed(z),
         Levelled::Refused(why) => refused(why),
     }
 }
 
 // The level of two digits at $020 and $021.
 fn level(high: u8, low: u8, ground: u8) {
-    text(b"digits ");
-    number(high as u64);
-    text(b",");
-    number(low as u64);
-    text(b" ground ");
-    number(ground as u64);
-    text(b": ");
+    said(b"digits ", high as u64, b",");
+    said(b"", low as u64, b" ground ");
+    said(b"", ground as u64, b": ");
     let mut cells = [0; Machine::CELLS];
     lent::poke(&mut cells, 0x020, high);
     lent::poke(&mut cells, 0x021, low);
@@ -429,18 +399,17 @@ fn levels() {
 
 fn refused_level(name: &[u8], cells: &[u8], body: &[u8]) {
     text(name);
-    text(b": ");
     levelled(panel::level::level(cells, body));
 }
 
 fn refused_levels() {
-    refused_level(b"memory of 3", b"\x10\x10\x10", b"");
-    refused_level(b"a cell of 16", &memory(4, 16, 0), b"");
-    refused_level(b"4 bytes", &memory(0, 0, 0), b"\x00\x20\x00\x21");
-    refused_level(b"equal cells", &memory(0, 0, 0), b"\x00\x20\x00\x20\x02");
-    refused_level(b"a register", &memory(0, 0, 0), b"\x00\x07\x00\x20\x02");
+    refused_level(b"memory of 3: ", b"\x10\x10\x10", b"");
+    refused_level(b"a cell of 16: ", &memory(4, 16, 0), b"");
+    refused_level(b"4 bytes: ", &memory(0, 0, 0), b"\x00\x20\x00\x21");
+    refused_level(b"equal cells: ", &memory(0, 0, 0), b"\x00\x20\x00\x20\x02");
+    refused_level(b"a register: ", &memory(0, 0, 0), b"\x00\x07\x00\x20\x02");
     refused_level(
-        b"a scan cell and a display cell",
+        b"a scan cell and a display cell: ",
         &memory(0, 0, 5),
         b"\x03\x58\x03\x48\x02",
     );

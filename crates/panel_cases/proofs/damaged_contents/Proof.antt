@@ -5,40 +5,34 @@ use Rattle.panel_cases.proofs.damaged_contents.Statement.{statement}
 use Rattle.panel_cases.proofs.damaged_contents.Tie as tie
 
 abbrev Inv-loop : tie.InvT-loop
-Inv-loop at₀ t2 t3 t4 at = at ≤ 16
+Inv-loop at₀ t2 t3 t4 t5 at = at ≤ 16
 
 abbrev μ-loop : tie.MeasureT-loop
-μ-loop at₀ t2 t3 t4 at = 16 - at
+μ-loop at₀ t2 t3 t4 t5 at = 16 - at
 
 loop-holds : tie.Need-loop-holds Inv-loop μ-loop
 loop-holds c = search needs
 
-slice-aggregate-text : tie.Need-slice-aggregate-text Inv-loop μ-loop
-slice-aggregate-text c = search needs
+slice-aggregate-said : tie.Need-slice-aggregate-said Inv-loop μ-loop
+slice-aggregate-said c = search needs
 
-text-requires : tie.Need-text-requires Inv-loop μ-loop
-text-requires c κs = search needs
+slice-aggregate-said-2 : tie.Need-slice-aggregate-said-2 Inv-loop μ-loop
+slice-aggregate-said-2 c = search needs
 
-number-requires : tie.Need-number-requires Inv-loop μ-loop
-number-requires c κs = search needs
+said-requires : tie.Need-said-requires Inv-loop μ-loop
+said-requires c κs = search needs
 
-slice-aggregate-text-2 : tie.Need-slice-aggregate-text-2 Inv-loop μ-loop
-slice-aggregate-text-2 c = search needs
-
-text-requires-2 : tie.Need-text-requires-2 Inv-loop μ-loop
-text-requires-2 c κs = search needs
+slice-aggregate-said-3 : tie.Need-slice-aggregate-said-3 Inv-loop μ-loop
+slice-aggregate-said-3 c = search needs
 
 every-value-requires : tie.Need-every-value-requires Inv-loop μ-loop
 every-value-requires c κs = search needs
 
-number-requires-2 : tie.Need-number-requires-2 Inv-loop μ-loop
-number-requires-2 c κs = search needs
+slice-aggregate-said-4 : tie.Need-slice-aggregate-said-4 Inv-loop μ-loop
+slice-aggregate-said-4 c = search needs
 
-slice-aggregate-text-3 : tie.Need-slice-aggregate-text-3 Inv-loop μ-loop
-slice-aggregate-text-3 c = search needs
-
-text-requires-3 : tie.Need-text-requires-3 Inv-loop μ-loop
-text-requires-3 c κs = search needs
+said-requires-2 : tie.Need-said-requires-2 Inv-loop μ-loop
+said-requires-2 c κs = search needs
 
 add-at : tie.Need-add-at Inv-loop μ-loop
 add-at c = search needs
@@ -71,15 +65,13 @@ damaged-contents-spec =
     Inv-loop
     μ-loop
     loop-holds
-    slice-aggregate-text
-    text-requires
-    number-requires
-    slice-aggregate-text-2
-    text-requires-2
+    slice-aggregate-said
+    slice-aggregate-said-2
+    said-requires
+    slice-aggregate-said-3
     every-value-requires
-    number-requires-2
-    slice-aggregate-text-3
-    text-requires-3
+    slice-aggregate-said-4
+    said-requires-2
     add-at
     loop-less
     loop-again
