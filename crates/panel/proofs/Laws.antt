@@ -1,14 +1,17 @@
--- What a match on a judgement leaves, and a picture as it comes into a room, element by element.
+-- What a match on a judgement leaves, a difference as it fits its type, and a picture as it comes into a room, element by element.
 use mathlib.Core.Path.{_≡_, _∙_, refl, ap, sym}
-use mathlib.Core.Bool.{Bool}
+use mathlib.Core.Bool.{Bool, true, false, cond}
 use mathlib.Core.List.{List}
-use Prim.Native.Nat.{ℕ, zero, suc, _+_, _/_, _<_, _≤_}
+use Prim.Native.Nat.{ℕ, zero, suc, _+_, _-_, _/_, _<_, _≤_}
 use native.Mathlib.Nat.{zero-add, add-zero, div-eq-of-lt, lt-of-lt-of-le}
 use native.Mathlib.Numerals.{add-one}
 use native.Mathlib.Omega.{arith}
+use lib.Dec.{ltb}
+use lib.IntN.{pos, negsuc, _-ℤ_}
 use lib.ListN.{length, set}
 use lib.Pow.{pow-mono}
 use lib.Seq.{paste, paste-suc}
+use lib.Signed.{mag}
 use borrow.Author.Tests.{lt-ltb, le-ltb}
 use Rattle.lent.specs.Lent.{at, pastedOf}
 use Rattle.refusal.specs.declared.Refusal.the-variants.{Room}
@@ -25,6 +28,15 @@ levelled-at l e q = q ∙ sym (ap (λ (n : Judged). levelledOf n l) e)
 
 pub drawn-at : {j i : Judged} {o : Outcome Drawn} (s r : List ℕ) → j ≡ i → o ≡ drawnOf i s r → o ≡ drawnOf j s r
 drawn-at s r e q = q ∙ sym (ap (λ (n : Judged). drawnOf n s r) e)
+
+either : (t : Bool) (x y n : ℕ) → x < n → y < n → mag (cond t (negsuc x) (pos y)) < n
+either true x y n hx hy = hx
+either false x y n hx hy = hy
+
+-- a difference of two numbers below n lies within n of 0, as an integer's bits count it
+pub difference-within : (a b n : ℕ) → a < n → b < n → mag (pos a -ℤ pos b) < n
+difference-within a zero n ha hb = omega arith
+difference-within a (suc b) n ha hb = either (ltb a (suc b)) (suc b - suc a) (a - suc b) n (omega arith) (omega arith)
 
 -- no byte has a bit beyond the seventh
 pub no-bit : (v b : ℕ) → v < 256 → 8 ≤ b → 0 ≡ bitOf v b

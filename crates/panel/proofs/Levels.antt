@@ -1,5 +1,5 @@
 -- A level that is told lies between -63 and 63, the two digits and the ground determine it, and the code is their octal reading.
-use mathlib.Core.Path.{_≡_, refl}
+use mathlib.Core.Path.{_≡_, _∙_, refl, sym}
 use mathlib.Core.Bool.{Bool, true, false, not, cond}
 use mathlib.Core.List.{List}
 use Prim.Native.Nat.{ℕ, zero, suc, _-_, _≤_}
@@ -19,7 +19,7 @@ use Rattle.panel.specs.declared.level.Levelled.{Levelled}
 use Rattle.panel.specs.declared.level.Levelled.the-variants as levelled
 use Rattle.panel.specs.Level.{codeOf, levelAt, levelIn, levelledOf, levelOf}
 
--- what a level that is told is told by
+-- the digits, the ground and the level of a level that is told
 pub record Told (high low ground : ℕ) (z : ℤ) : Type 0 where
   pub high-digit : high ≤ 7
   pub low-digit : low ≤ 7
@@ -52,13 +52,19 @@ ground-fine body e =
     let k = ltb-true (groundCode body) 64 g in
     omega arith
 
--- THE DIGITS AND THE GROUND DETERMINE THE LEVEL
+-- what a level that is accepted is told by
 pub level-told : (memory body : List ℕ) (z : ℤ) → levelOf memory body ≡ levelled.Level z
     → Told (at memory (highCell body)) (at memory (lowCell body)) (groundCode body) z
 unfolding levelOf levelIn
 level-told memory body z e =
     let f = levelled-fine _ _ z e in
     told-digits _ _ _ z (ground-fine body (first-fine _ _ (f .0) .1)) (f .1)
+
+-- THE DIGITS AND THE GROUND DETERMINE THE LEVEL, whatever else the memory and the body hold
+pub level-determined : (m b n d : List ℕ) (y z : ℤ) → levelOf m b ≡ levelled.Level y → levelOf n d ≡ levelled.Level z
+    → at m (highCell b) ≡ at n (highCell d) → at m (lowCell b) ≡ at n (lowCell d) → groundCode b ≡ groundCode d → y ≡ z
+level-determined m b n d y z e f high low ground =
+    level-told m b y e .level ∙ (rw (high, low, ground) (sym (level-told n d z f .level)))
 
 -- a difference of two numbers up to n is at most n from 0
 near-by : (t : Bool) (x y n : ℕ) → suc x ≤ n → y ≤ n → natAbs (cond t (negsuc x) (pos y)) ≤ n
