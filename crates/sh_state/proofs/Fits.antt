@@ -1,17 +1,17 @@
 -- A well-formed machine, rule by rule (01, "What is lent"): what is judged fine is one, and one is judged fine.
-use mathlib.Core.Path.{_≡_, _∙_, refl, ap, sym}
+use mathlib.Core.Path.{_≡_, _∙_, refl, sym}
 use mathlib.Core.Bool.{Bool, true, false}
 use mathlib.Core.List.{List, [], _∷_}
 use Prim.Native.Nat.{ℕ, zero, suc, _+_, _/_, _%_, _<_, _≤_}
 use native.Mathlib.Omega.{arith}
 use native.Mathlib.Nat.{zero-add}
-use lib.Dec.{ltb, leb, eqb}
-use lib.Bits.{bitAnd, and-le-r, and-zero-l}
+use lib.Dec.{ltb, eqb}
+use lib.Bits.{bitAnd, and-le-r}
 use lib.ListN.{length, set, length-set}
 use lib.Seq.{set-out, getD-set-same, getD-set-other}
 use borrow.Author.Tests.{ltb-true, ltb-false, leb-true, eqb-true, eqb-false, lt-ltb, le-leb, eq-eqb, ne-eqb}
 use Rattle.lent.specs.Lent.{pick, both, at}
-use Rattle.lent.proofs.Laws.{test, by-lt, by-eq, at-past}
+use Rattle.lent.proofs.Laws.{test, by-eq, at-past}
 use Rattle.refusal.specs.declared.Refusal.the-variants as refusal
 use Rattle.sh_state.specs.declared.judge.Judged.{Judged}
 use Rattle.sh_state.specs.declared.judge.Judged.the-variants.{Fine, Refused}
@@ -382,9 +382,9 @@ fit-at f g p q r s = record { memory = f; machine = rw (p, q, r, s) g }
 
 -- a cell that no rule of the record is tied to
 abbrev pub Untied : ℕ → Type 0
-Untied a = (0x02 ≡ a → ⊥) × (0x03 ≡ a → ⊥) × (0x1E ≡ a → ⊥) × (0x0C ≡ a → ⊥)
+Untied a = (a ≡ 0x02 → ⊥) × (a ≡ 0x03 → ⊥) × (a ≡ 0x1E → ⊥) × (a ≡ 0x0C → ⊥)
 
 pub store-keeps : {m : Machine} {l : List ℕ} → Fit (state m l) → (a v : ℕ) → Untied a → bitAnd v (heldOf a) ≡ v → Fit (state m (set l a v))
 store-keeps {l = l} f a v n h =
-    fit-at (store-fits (f .memory) a v h) (f .machine) (getD-set-other l a 0x02 v 0 (n .0)) (getD-set-other l a 0x03 v 0 (n .1)) (getD-set-other l a 0x1E v 0 (n .2))
-    (getD-set-other l a 0x0C v 0 (n .3))
+    let stays : (b : ℕ) → (a ≡ b → ⊥) → at (set l a v) b ≡ at l b = λ b k. getD-set-other l a b v 0 (λ e. k (sym e)) in
+    fit-at (store-fits (f .memory) a v h) (f .machine) (stays 0x02 (n .0)) (stays 0x03 (n .1)) (stays 0x1E (n .2)) (stays 0x0C (n .3))

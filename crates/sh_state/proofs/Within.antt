@@ -1,6 +1,6 @@
 -- Bits within a mask: what is cut from them, and what is joined of them, lies within it too.
-use mathlib.Core.Path.{_≡_, _∙_, refl, ap, sym}
-use Prim.Native.Nat.{ℕ, _+_, _*_, _/_, _%_, _<_, min, max}
+use mathlib.Core.Path.{_≡_, _∙_, refl}
+use Prim.Native.Nat.{ℕ, _/_, _%_, _<_, min, max}
 use native.Mathlib.Omega.{arith}
 use lib.Arith.{bin-ind}
 use lib.Bits.{bitAnd, bitOr, and-step, or-step, and-comm, and-mask}
