@@ -1,0 +1,6 @@
+pub mod Cell
+pub mod Witness
+pub mod Forms
+pub mod Exact
+pub mod Step
+pub mod Laws
