@@ -3,4 +3,6 @@ pub mod Witness
 pub mod Forms
 pub mod Exact
 pub mod Step
+pub mod Listing
+pub mod Numbers
 pub mod Laws
