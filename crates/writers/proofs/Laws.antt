@@ -8,7 +8,7 @@ use native.Mathlib.Numerals.{add-one}
 use native.Mathlib.Omega.{arith}
 use lib.ListN.{length, take, drop, set, drop-of-length-le, take-append-drop}
 use lib.Seq.{take-suc-set, drop-set-lt, append-snoc}
-use Rattle.lent.specs.Lent.{both, at}
+use Rattle.lent.specs.Lent.{pick, both, at}
 use Rattle.lent.proofs.Laws.{drop-more}
 use Rattle.word.specs.declared.Decoded.{Decoded}
 use Rattle.word.specs.declared.ImmediateOperation.{ImmediateOperation}
@@ -36,6 +36,11 @@ both-on p t q = rw (← p, t, q)
 
 pub both-off : {n a : Bool} (b : Bool) → n ≡ a → n ≡ false → false ≡ both a b
 both-off b p t = rw (← p, t)
+
+-- what holds of both choices holds of the choice
+pub by-test : {A : Type 0} (P : A → Type 0) (b : Bool) (x y : A) → (b ≡ true → P x) → (b ≡ false → P y) → P (pick b x y)
+by-test P true x y f g = f refl
+by-test P false x y f g = g refl
 
 -- past the map no cell can be asked for
 pub askable-past : (c : ℕ) → 0x10000 ≤ c → false ≡ askableOf c

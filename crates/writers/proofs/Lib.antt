@@ -4,5 +4,6 @@ pub mod Forms
 pub mod Exact
 pub mod Step
 pub mod Listing
+pub mod Told
 pub mod Numbers
 pub mod Laws

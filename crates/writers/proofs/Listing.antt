@@ -1,18 +1,19 @@
 -- The list of writers is the list that the statement asks for, and no other list is: it holds what passes the test, which is what the statement says, and two ascending lists with the same members are equal.
 use mathlib.Core.Path.{_≡_, refl, sym, ap, subst, _∙_}
 use mathlib.Core.Logic.{_⊎_, inl, inr, ⊎-elim}
-use mathlib.Core.Bool.{Bool, true, false}
+use mathlib.Core.Bool.{true}
 use mathlib.Core.List.{List, [], _∷_}
 use Prim.Native.Nat.{ℕ, zero, suc, _+_, _≤_, _<_}
 use native.Mathlib.Omega.{arith}
 use native.Mathlib.Nat.{zero-add}
 use lib.ListN.{length}
-use Rattle.lent.specs.Lent.{pick, at}
+use Rattle.lent.specs.Lent.{at}
 use Rattle.sh_state.specs.Map.{askableOf}
 use Rattle.sh_state.proofs.Fits.{fit-of}
 use Rattle.writers.specs.Statement.{Changes}
 use Rattle.writers.specs.Test.{writesOf}
 use Rattle.writers.specs.List.{writersFrom, writersOf, Up, Has, Listing}
+use Rattle.writers.proofs.Laws.{by-test}
 use Rattle.writers.proofs.Exact.{sound, complete}
 
 -- what stands in a list that ascends from k on is at least k
@@ -50,11 +51,6 @@ record Place (p : List ℕ) (c a b : ℕ) : Type 0 where
   is : b ≡ a + i
   within : i < length p
   writes : writesOf (at p i) c ≡ true
-
--- what holds of both choices holds of the choice
-by-test : {A : Type 0} (P : A → Type 0) (b : Bool) (x y : A) → (b ≡ true → P x) → (b ≡ false → P y) → P (pick b x y)
-by-test P true x y f g = f refl
-by-test P false x y f g = g refl
 
 -- What the walk over a program from address a on lists.
 module _ (c : ℕ) where

@@ -102,15 +102,15 @@ fn askable(cell: u32) -> bool
 fn count(program: &[u16], cell: u16) -> usize
     ensures { λ r. ⌜ r ≡ length (writersOf (now (program .entry)) cell) ⌝ }
 {
-    let mut n: usize = 0;
-    let mut a: usize = 0;
-    while a < program.len() {
-        if writes(program[a], cell) {
-            n += 1;
+    let mut found: usize = 0;
+    let mut i: usize = 0;
+    while i < program.len() {
+        if writes(program[i], cell) {
+            found += 1;
         }
-        a += 1;
+        i += 1;
     }
-    n
+    found
 }
 
 // The list in the room; what stands beyond it stays.

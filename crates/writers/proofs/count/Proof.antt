@@ -11,11 +11,11 @@ use Rattle.writers.proofs.count.Statement.{statement}
 use Rattle.writers.proofs.count.Tie as tie
 
 abbrev Inv-loop : tie.InvT-loop
-Inv-loop program cell n₀ a₀ n a =
-    (a ≤ length program) × (n ≤ a) × (n + length (writersFrom a (drop a program) cell) ≡ length (writersOf program cell))
+Inv-loop program cell found₀ i₀ found i =
+    (i ≤ length program) × (found ≤ i) × (found + length (writersFrom i (drop i program) cell) ≡ length (writersOf program cell))
 
 abbrev μ-loop : tie.MeasureT-loop
-μ-loop program cell n₀ a₀ n a = length program - a
+μ-loop program cell found₀ i₀ found i = length program - i
 
 loop-holds : tie.Need-loop-holds Inv-loop μ-loop
 unfolding writersOf
@@ -30,11 +30,11 @@ shared-slice-read-writes c = search needs
 writes-requires : tie.Need-writes-requires Inv-loop μ-loop
 writes-requires c κs = search needs
 
-add-n : tie.Need-add-n Inv-loop μ-loop
-add-n c = search needs
+add-found : tie.Need-add-found Inv-loop μ-loop
+add-found c = search needs
 
-add-a : tie.Need-add-a Inv-loop μ-loop
-add-a c = omega arith
+add-i : tie.Need-add-i Inv-loop μ-loop
+add-i c = omega arith
 
 loop-less : tie.Need-loop-less Inv-loop μ-loop
 loop-less c = omega arith
@@ -46,15 +46,15 @@ loop-again c =
     let p = s .args .program .now in
     let w = c .before .writes in
     ⊎-elim
-    (λ k. let g = ap length (one-here p (s .args .cell) (l .a) (omega arith) _ (w .ensures) (k .0 .taken)) in (omega arith, omega arith, omega (arith, g, l .inv .2)))
-    (λ k. let g = ap length (none-here p (s .args .cell) (l .a) (omega arith) _ (w .ensures) (k .0 .left)) in (omega arith, omega arith, omega (arith, g, l .inv .2)))
+    (λ k. let g = ap length (one-here p (s .args .cell) (l .i) (omega arith) _ (w .ensures) (k .0 .taken)) in (omega arith, omega arith, omega (arith, g, l .inv .2)))
+    (λ k. let g = ap length (none-here p (s .args .cell) (l .i) (omega arith) _ (w .ensures) (k .0 .left)) in (omega arith, omega arith, omega (arith, g, l .inv .2)))
     (c .if1 .came)
 
 returns : tie.Need-returns Inv-loop μ-loop
 returns c =
     let l = c .before .loop in
     let s = c .before .before .before in
-    omega (arith, l .inv .2, ap length (none-left (s .args .program .now) (s .args .cell) (l .a) (omega arith)))
+    omega (arith, l .inv .2, ap length (none-left (s .args .program .now) (s .args .cell) (l .i) (omega arith)))
 
 pub count-spec : {M : Type 1} → statement M
 count-spec =
@@ -66,8 +66,8 @@ count-spec =
     mul-writes
     shared-slice-read-writes
     writes-requires
-    add-n
-    add-a
+    add-found
+    add-i
     loop-less
     loop-again
     returns)
