@@ -1,0 +1,4 @@
+pub mod Statement
+pub mod Test
+pub mod List
+pub mod Answer
