@@ -23,11 +23,7 @@ use Rattle.sh_state.specs.declared.rules.Found.the-variants.{At, Nothing
 use Rattle.sh_state.specs.Judge.{cellsJudged, memoryJudged, recordJudged, firstOf, stateJudged}
 use Rattle.sh_state.specs.Map.{kindOf, registerBits, heldIn, heldOf}
 use Rattle.sh_state.specs.Periods.{ratios, ratioOf, baseRatios, baseRatioOf, baseOn, periods, periodOf}
-<<<<<<< HEAD
 use Rattle.sh_state.specs.Record.{setPc, setAc, setCy, setMode, setStack, setPrescaler, setCounter, setLoad, setBasePrescaler, setBaseCounter, setWatchdog, setPinA, setPinB, setPinC, setPinD, setPending, pushed, popped, pushOf, popOf, entryOf}
-=======
-use Rattle.sh_state.specs.Record.{setPc, setAc, setCy, setMode, setStack, setPrescaler, setCounter, setLoad, setBasePrescaler, setBaseCounter, setWatchdog, setPinA, setPinB, setPinC, setPinD, setPending, pushed, popped, pushOf, popOf, newestOf, entryOf}
->>>>>>> writers
 use Rattle.sh_state.specs.Rules.{cellFits, brokenFrom, cpuFits, stackFits, timer0Fits, baseFits, watchdogFits, bytesFit, pinsFit, optionsFit, pendingFits, tiesFit, wellFormedOf}
 use Rattle.sh_state.specs.State.{State, state}
 use Rattle.sh_state.proofs.Below.{both-hold, pick-hold, lt-hold, below, below-at}
@@ -35,10 +31,7 @@ use Rattle.sh_state.proofs.Below.{both-hold, pick-hold, lt-hold, below,
 -- a memory that keeps the memory rules
 pub record MemoryFit (l : List ℕ) : Type 0 where
   pub size : length l ≡ 1024
-<<<<<<< HEAD
   -- no bit but those that the cell holds; past the end 0 stands
-=======
->>>>>>> writers
   pub cells : (a : ℕ) → bitAnd (at l a) (heldOf a) ≡ at l a
 
 -- a record that keeps its rules beside what $002, $003, $01E and $00C hold
@@ -47,27 +40,18 @@ pub record MachineFit (m : Machine) (timer base control bonding : ℕ) : Type 0 
   pub ac : m .ac < 16
   pub cy : m .cy < 2
   pub mode : m .mode < 3
-<<<<<<< HEAD
   -- eight entries of 13 bits
   pub levels : length (m .stack) ≡ 8
   pub entries : (i : ℕ) → at (m .stack) i < 8192
   -- prescalers lie below their present ratio
-=======
-  pub levels : length (m .stack) ≡ 8
-  pub entries : (i : ℕ) → at (m .stack) i < 8192
->>>>>>> writers
   pub prescaler : m .prescaler < ratioOf timer
   pub counter : m .counter < 256
   pub load : m .load < 256
   pub baseprescaler : m .baseprescaler < baseRatioOf base
   pub basecounter : m .basecounter < 256
-<<<<<<< HEAD
   -- a disabled base timer holds 0, 0
   pub idle : baseOn base ≡ false → (m .baseprescaler ≡ 0) × (m .basecounter ≡ 0)
   -- the watchdog count is 1 up to its period
-=======
-  pub idle : baseOn base ≡ false → (m .baseprescaler ≡ 0) × (m .basecounter ≡ 0)
->>>>>>> writers
   pub started : 0 < m .watchdog
   pub watchdog : m .watchdog ≤ periodOf control
   pub pina : m .pina < 16
@@ -75,7 +59,6 @@ pub record MachineFit (m : Machine) (timer base control bonding : ℕ) : Type 0 
   pub pinc : m .pinc < 16
   pub pind : m .pind < 16
   pub options : m .options < 8
-<<<<<<< HEAD
   -- bits 0-1 of $00C equal the bonding options
   pub bonded : bonding % 4 ≡ m .options / 2
   pub pending : m .pending < 2
@@ -84,13 +67,6 @@ pub record MachineFit (m : Machine) (timer base control bonding : ℕ) : Type 0 
   pub none : m .pending ≡ 0 → m .address ≡ 0
 
 -- a machine that keeps them all
-=======
-  pub bonded : bonding % 4 ≡ m .options / 2
-  pub pending : m .pending < 2
-  pub address : m .address < 4096
-  pub none : m .pending ≡ 0 → m .address ≡ 0
-
->>>>>>> writers
 pub record Fit (s : State) : Type 0 where
   pub memory : MemoryFit (s .memory)
   pub machine : MachineFit (s .machine) (at (s .memory) 0x02) (at (s .memory) 0x03) (at (s .memory) 0x1E) (at (s .memory) 0x0C)
@@ -316,11 +292,7 @@ module _ {l : List ℕ} (f : MemoryFit l) (a : ℕ) where
   cell-small = omega (arith, cell-held, held-small a)
 
 -- what holds of a stored value and of what stood before holds of what stands after
-<<<<<<< HEAD
 after-set : (P : ℕ → Type 0) (l : List ℕ) (a v b : ℕ) → (b ≡ a → P v) → P (at l b) → P (at (set l a v) b)
-=======
-pub after-set : (P : ℕ → Type 0) (l : List ℕ) (a v b : ℕ) → (b ≡ a → P v) → P (at l b) → P (at (set l a v) b)
->>>>>>> writers
 after-set P l a v b new old =
     test (eqb b a)
     (λ t. let e = eqb-true b a t in test (ltb a (length l)) (λ u. rw (e, getD-set-same l a v 0 (ltb-true _ _ u)) (new e)) (λ u. rw (set-out l a v (ltb-false _ _ u)) old))
@@ -403,13 +375,6 @@ module _ {m : Machine} {t b w o : ℕ} (f : MachineFit m t b w o) where
   unfolding popOf stackFits
   pop-fits = let p = stack-of (popped (m .stack)) (simp (lt-ltb, f .entries)) in stack-set-fits f (popped (m .stack)) (p .0) (p .1)
 
-<<<<<<< HEAD
-=======
-  pub newest-small : newestOf m < 8192
-  unfolding newestOf
-  newest-small = f .entries 0
-
->>>>>>> writers
 pub entry-small : (cy pc : ℕ) → entryOf cy pc < 8192
 unfolding entryOf
 entry-small cy pc = omega arith
