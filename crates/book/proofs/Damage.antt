@@ -39,7 +39,7 @@ refused-by l e = rw e
 pub damage-refused : (l : List ℕ) → AllBytes l → (ps : Parts) → readOf l ≡ reading.Parts ps
     → (i v : ℕ) → i < 16 → v < 256 → (v ≡ at l i → ⊥) → readOf (set l i v) ≡ reading.Refused refusal.Contents
 damage-refused l h ps e i v k b other =
-    let c = contents-fine l h ps e in
+    let c = contents-fine l ps e in
     let m : i < length l = omega (arith, c .ends) in
     test (contentsFit (set l i v))
     (λ t.

@@ -154,7 +154,7 @@ second l = partOf l (16 + lengthAt l 1) (lengthAt l 6)
 abbrev third : List ℕ → List ℕ
 third l = partOf l (16 + lengthAt l 1 + lengthAt l 6) (lengthAt l 11)
 
-module _ (l : List ℕ) (h : AllBytes l) (ps : Parts) (e : readOf l ≡ reading.Parts ps) where
+module _ (l : List ℕ) (ps : Parts) (e : readOf l ≡ reading.Parts ps) where
   accepted : (bookJudged l ≡ judged.Fine) × (partsOf l ≡ ps)
   unfolding readOf
   accepted = reading-fine (bookJudged l) (partsOf l) ps e
@@ -185,14 +185,14 @@ module _ (l : List ℕ) (h : AllBytes l) (ps : Parts) (e : readOf l ≡ reading.
   unfolding partOf
   in-row a b c k = rw (← take-add 16 a l, ← take-add (16 + a) b l, ← take-add (16 + a + b) c l, ← k) (take-length l)
 
-  header : contentsOf (length (first l)) (length (second l)) (length (third l)) ≡ take 16 l
-  header =
+  header : AllBytes l → contentsOf (length (first l)) (length (second l)) (length (third l)) ≡ take 16 l
+  header h =
       rw (first-length, second-length, third-length, program-told l contents-fine, level-told l contents-fine) (sym (header-told l h contents-fine))
 
-  book-again : bookOf (first l) (second l) (third l) ≡ l
+  book-again : AllBytes l → bookOf (first l) (second l) (third l) ≡ l
   unfolding bookOf
-  book-again =
-      ap (λ (t : List ℕ). t ++ first l ++ second l ++ third l) header
+  book-again h =
+      ap (λ (t : List ℕ). t ++ first l ++ second l ++ third l) (header h)
       ∙ in-row (lengthAt l 1) (lengthAt l 6) (lengthAt l 11) (contents-fine .ends)
 
   bodies-again : bodiesJudged (first l) (second l) (third l) ≡ judged.Fine
@@ -201,22 +201,22 @@ module _ (l : List ℕ) (h : AllBytes l) (ps : Parts) (e : readOf l ≡ reading.
       rw (first-length, second-length, third-length, contents-fine .program .fits, contents-fine .wiring .fits, contents-fine .level .fits) values-fine
 
   -- a file that is accepted is the book of its three bodies, which are good
-  pub book-of-parts : bookOf (bodyIn l (ps .program)) (bodyIn l (ps .wiring)) (bodyIn l (ps .level)) ≡ l
+  pub book-of-parts : AllBytes l → bookOf (bodyIn l (ps .program)) (bodyIn l (ps .wiring)) (bodyIn l (ps .level)) ≡ l
   unfolding partsOf
-  book-of-parts = rw (← accepted .1) book-again
+  book-of-parts h = rw (← accepted .1) (book-again h)
 
   parts-fine : bodiesJudged (bodyIn l (ps .program)) (bodyIn l (ps .wiring)) (bodyIn l (ps .level)) ≡ judged.Fine
   unfolding partsOf
   parts-fine = rw (← accepted .1) bodies-again
 
   -- WHAT IS ACCEPTED IS WHAT THE WRITER GIVES for its bodies
-  pub written-read : (room : List ℕ) → length l ≤ length room
+  pub written-read : AllBytes l → (room : List ℕ) → length l ≤ length room
       → writeOf (bodyIn l (ps .program)) (bodyIn l (ps .wiring)) (bodyIn l (ps .level)) room ≡ outcome (written.Bytes (length l)) (pastedOf room 0 l)
   unfolding writeOf writtenOf
-  written-read room k = rw (parts-fine, book-of-parts) (sym (put-fits l room (length l) refl (pastedOf room 0 l) k refl))
+  written-read h room k = rw (parts-fine, book-of-parts h) (sym (put-fits l room (length l) refl (pastedOf room 0 l) k refl))
 
 -- NO TWO FILES HOLD THE SAME PARTS
 pub one-file : (l m p w v : List ℕ) → AllBytes l → AllBytes m → Holds l p w v → Holds m p w v → l ≡ m
 one-file l m p w v h k x y =
-    sym (book-of-parts l h (x .parts) (x .reads))
-    ∙ (rw (x .program, x .wiring, x .level, ← y .program, ← y .wiring, ← y .level) (book-of-parts m k (y .parts) (y .reads)))
+    sym (book-of-parts l (x .parts) (x .reads) h)
+    ∙ (rw (x .program, x .wiring, x .level, ← y .program, ← y .wiring, ← y .level) (book-of-parts m (y .parts) (y .reads) k))
