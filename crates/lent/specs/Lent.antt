@@ -18,7 +18,7 @@ both false b = false
 abbrev pub at : List ℕ → ℕ → ℕ
 at l i = getD l i 0
 
--- two bytes as a number, high byte first (01, "Panel book": "high byte first as everywhere")
+-- two bytes as a number, high byte first (01: "high byte first", in a book and in the record)
 unfoldable pub pairAtOf : List ℕ → ℕ → ℕ
 pairAtOf l i = 256 * at l i + at l (i + 1)
 

@@ -27,7 +27,8 @@ targetOf l a = pick (eqb a 0x0F) (pointedOf l) a
 unfoldable pub portOf : ℕ → ℕ → ℕ → ℕ
 portOf pin latch control = bitOr (bitAnd pin (255 - control)) (bitAnd latch control)
 
--- what a cell that is no port and no counter reads as: sound ($370-$377, written only) and unmapped cells read 0
+-- what a cell that is no port and no counter reads as: what it holds, which is 0 at $006, $00F and $01F by the memory rules;
+-- sound ($370-$377, written only) and unmapped cells read 0
 unfoldable pub plainIn : Kind → List ℕ → ℕ → ℕ
 plainIn Register l a = at l a
 plainIn Data l a = at l a
@@ -82,7 +83,7 @@ unfoldable pub askedOf : State → ℕ → Machine
 askedOf s v =
     setPending (s .machine) 1 (256 * (at (s .memory) 0x1C % 16) + 16 * (at (s .memory) 0x1B % 16) + v % 16)
 
--- what the record notices of v being written: $002 clears Timer0's prescaler, $01E restarts the watchdog
+-- what the record notices of v being written: $002 clears Timer0's prescaler, $01E restarts the watchdog, and the four above
 unfoldable pub noticedOf : State → ℕ → ℕ → Machine
 noticedOf s a v =
     pick (eqb a 0x02) (setPrescaler (s .machine) 0)

@@ -1,4 +1,4 @@
--- One instruction on the machine (003, section 17; 01, "One instruction").
+-- One instruction on the machine (003, section 17; 01, "One instruction"). Decoding keeps every field in its range.
 use Prim.Native.Nat.{ℕ, _+_, _*_, _/_, _%_}
 use mathlib.Core.Bool.{Bool, true, false, not}
 use lib.Dec.{eqb}
@@ -23,7 +23,7 @@ use Rattle.sh_cells.specs.Cells.{targetOf, readOf, writeOf}
 unfoldable pub nextOf : ℕ → ℕ
 nextOf pc = pc / 2048 * 2048 + (pc % 2048 + 1) % 2048
 
--- branches and CALL keep PC11 (HOUSE)
+-- branches keep PC11, and so does CALL (HOUSE)
 unfoldable pub withinOf : ℕ → ℕ → ℕ
 withinOf pc t = pc / 2048 * 2048 + t % 2048
 
@@ -43,7 +43,7 @@ unfoldable pub accumulatedOf : State → Operation → ℕ → ℕ → Machine
 accumulatedOf s o operand a =
     tookOf (readOf s a .machine) (calculatedOf o (readOf s a .value) operand (s .machine .cy))
 
--- ADCM to ANDM, ADIM to ANDIM: cell a is read, then AC and the cell take the result
+-- ADCM to ANDM, ADIM, SBIM to ANDIM: cell a is read, then AC and the cell take the result
 unfoldable pub storedOf : State → Operation → ℕ → ℕ → State
 storedOf s o operand a =
     putOf (state (readOf s a .machine) (s .memory)) a (calculatedOf o (readOf s a .value) operand (s .machine .cy))

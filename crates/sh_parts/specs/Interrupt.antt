@@ -22,9 +22,10 @@ awakeOf mode due = pick (eqb mode 0) true (pick (eqb mode 1) (not (eqb due 0)) (
 unfoldable pub vectorOf : ℕ → ℕ
 vectorOf due = pick (ltb 7 due) 0x001 (pick (ltb 3 due) 0x002 (pick (ltb 1 due) 0x003 0x004))
 
--- an interrupt taken: CY and PC pushed, PC at the vector, $000 cleared, $001 left
+-- CY and PC pushed, PC at the vector
 unfoldable pub enteredOf : Machine → ℕ → Machine
 enteredOf m due = setPc (pushOf m (entryOf (m .cy) (m .pc))) (vectorOf due)
 
+-- an interrupt taken: besides, $000 is cleared and $001 left
 unfoldable pub interruptedOf : State → ℕ → State
 interruptedOf s due = state (enteredOf (s .machine) due) (set (s .memory) 0x00 0)

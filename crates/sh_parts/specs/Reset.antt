@@ -29,7 +29,7 @@ unfoldable pub soundStays : Column → List ℕ
 soundStays Pin = replicate 8 0
 soundStays Watchdog = 15 ∷ 15 ∷ 15 ∷ 15 ∷ 15 ∷ 15 ∷ 15 ∷ 12 ∷ []
 
--- the bits that stay at an address; data, display and scan cells stay whole (HOUSE)
+-- the bits that stay at an address; data, display and scan cells stay whole (HOUSE), and where nothing is mapped nothing moves
 unfoldable pub staysIn : Kind → Column → ℕ → ℕ
 staysIn Register column a = at (registerStays column) a
 staysIn Data column a = 15
@@ -58,7 +58,7 @@ resetMemoryOf column options l = mapFrom (resetCellOf column options) l 0
 unfoldable pub pinsOf : Machine → Machine → Machine
 pinsOf m pins = setPinA (setPinB (setPinC (setPinD m (pins .pind)) (pins .pinc)) (pins .pinb)) (pins .pina)
 
--- HOUSE: all 0, running, watchdog at its period; options and pins stay
+-- HOUSE: all 0, running, watchdog at its period, which is 4,096 as both columns leave bits 2-0 of $01E at 0; options and pins stay
 unfoldable pub resetRecordOf : Machine → Machine
 resetRecordOf m = pinsOf (freshOf (m .options)) m
 

@@ -30,7 +30,7 @@ fn reached(m: Machine, e: u8, target: u32) -> bool
     false
 }
 
-// The run of a script, until a cycle leaves PC at the target, an unlisted word stands next, or the script ends.
+// The run of a script, until a cycle leaves PC at the target, the next cycle would execute an unlisted word, or the script ends.
 pub fn run(program: &[u16], start: Machine, memory: &mut [u8], script: &[u8], target: u32) -> Ended
     ensures { λ r. ⌜ ran (state (r .machine) (now (memory .exit))) (r .why) (r .events) ≡ runOf (now (program .entry)) target (now (script .entry)) (state start (now (memory .entry))) 0 ⌝ }
 {
