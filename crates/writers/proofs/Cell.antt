@@ -1,19 +1,21 @@
--- A cell of data, display or scan lies past the registers, reads as what it holds, and holds the nibble that is written to it.
+-- A cell of data, display or scan lies past the registers, reads as what it holds, and holds the nibble that is written to it; and which addresses name it.
 use mathlib.Core.Path.{_≡_, refl}
+use mathlib.Core.Logic.{_⊎_, inl, inr}
 use mathlib.Core.Bool.{Bool, true, false}
 use Prim.Native.Nat.{ℕ, _<_, _≤_}
 use native.Mathlib.Omega.{arith}
 use lib.Dec.{eqb}
 use lib.Bits.{bitAnd, bitOr}
-use borrow.Author.Tests.{ne-eqb, eqb-true}
+use borrow.Author.Tests.{eq-eqb, ne-eqb, eqb-true}
 use Rattle.lent.specs.Lent.{at}
-use Rattle.lent.proofs.Laws.{by-lt}
+use Rattle.lent.proofs.Laws.{by-lt, by-eq}
 use Rattle.sh_state.specs.declared.map.Kind.{Kind}
 use Rattle.sh_state.specs.declared.map.Kind.the-variants.{Register, Data, Display, Scan, Sound, Unmapped}
 use Rattle.sh_state.specs.Map.{kindOf, heldIn, heldOf, writtenIn, writtenOf, askableIn, askableOf}
 use Rattle.sh_state.specs.State.{State}
 use Rattle.sh_state.proofs.Below.{below, below-pair}
 use Rattle.sh_cells.specs.Cells.{plainIn, plainOf, valueOf, keptOf}
+use Rattle.writers.specs.Test.{names}
 
 -- a test that fails does not hold
 pub never : {P : Type 0} → false ≡ true → P
@@ -65,3 +67,17 @@ value-askable s c e =
     let low = past-registers c e .0 in
     rw (ne-eqb c 0x04 (omega arith), ne-eqb c 0x05 (omega arith), ne-eqb c 0x08 (omega arith), ne-eqb c 0x09 (omega arith), ne-eqb c 0x0A (omega arith), ne-eqb c 0x0B (omega arith))
     (plain-askable s (kindOf c) c e)
+
+-- Which addresses name a cell: its own, and $00F.
+
+pub names-itself : (c : ℕ) → names c c ≡ true
+unfolding names
+names-itself c = rw (eq-eqb c c refl)
+
+pub names-pointed : (c : ℕ) → names 0x0F c ≡ true
+unfolding names
+names-pointed c = by-eq (λ b. b ≡ true) 0x0F c _ _ (λ e. refl) (λ n. refl)
+
+pub names-only : (x c : ℕ) → names x c ≡ true → (x ≡ c) ⊎ (x ≡ 0x0F)
+unfolding names
+names-only x c = by-eq (λ b. b ≡ true → (x ≡ c) ⊎ (x ≡ 0x0F)) x c _ _ (λ e t. inl e) (λ n t. inr (eqb-true x 0x0F t))

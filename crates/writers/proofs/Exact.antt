@@ -1,14 +1,13 @@
 -- The test holds exactly when the statement does: what changes a cell writes it with a value that may differ, and from such a value the witness is built.
 use mathlib.Core.Path.{_≡_, _∙_, refl, sym, ap}
-use mathlib.Core.Bool.{Bool, true, false}
+use mathlib.Core.Bool.{Bool, true}
 use mathlib.Core.List.{List}
 use Prim.Native.Nat.{ℕ, _<_}
 use native.Mathlib.Omega.{arith}
 use lib.Dec.{eqb}
-use lib.ListN.{set}
 use lib.Seq.{getD-set-same, getD-set-other}
-use borrow.Author.Tests.{eqb-true, eqb-false, eq-eqb}
-use Rattle.lent.specs.Lent.{pick, both, at}
+use borrow.Author.Tests.{eqb-true, eqb-false}
+use Rattle.lent.specs.Lent.{both, at}
 use Rattle.lent.proofs.Laws.{test}
 use Rattle.word.specs.declared.Decoded.{Decoded}
 use Rattle.word.specs.declared.Instruction.{Instruction}
@@ -19,24 +18,20 @@ use Rattle.sh_state.specs.Record.{setPc, setAc, setCy, freshOf}
 use Rattle.sh_state.specs.State.{State, state}
 use Rattle.sh_state.proofs.Below.{both-hold}
 use Rattle.sh_state.proofs.Fits.{Fit, fit-of, cell-small}
-use Rattle.sh_cells.specs.Cells.{targetOf, valueOf, keptOf}
+use Rattle.sh_cells.specs.Cells.{targetOf, valueOf}
 use Rattle.sh_execute.specs.Execute.{executeOf}
 use Rattle.writers.specs.Statement.{Changes}
 use Rattle.writers.specs.Test.{names, writesIn, writesBy, writesOf}
-use Rattle.writers.proofs.Cell.{never, past-registers, kept-askable, value-askable}
-use Rattle.writers.proofs.Witness.{arrived, pointing, holds, quiet, means, arrived-well, pointing-fits}
+use Rattle.writers.proofs.Cell.{never, past-registers, kept-askable, value-askable, names-itself, names-pointed}
+use Rattle.writers.proofs.Witness.{arrived, pointing, holds, quiet, means, arrived-well}
 use Rattle.writers.proofs.Forms.{leftOf, Value, Form, form-of}
 use Rattle.writers.proofs.Forms.Form.{Writes, Leaves}
 
 -- an address that means a cell names it
 named : (l : List ℕ) (x c : ℕ) → targetOf l x ≡ c → names x c ≡ true
-unfolding targetOf names
-named l x c =
-    test (eqb x 0x0F) (λ t e. rw t (either (eqb x c))) (λ t e. rw (eq-eqb x c (rw t at e)))
-  where
-    either : (b : Bool) → pick b true true ≡ true
-    either true = refl
-    either false = refl
+unfolding targetOf
+named l x c e =
+    test (eqb x 0x0F) (λ t. let q = eqb-true x 0x0F t in rw q (names-pointed c)) (λ t. let q : x ≡ c = rw t at e in rw q (names-itself c))
 
 module _ (s : State) (f : Fit s) (c : ℕ) (h : askableOf c ≡ true) where
   -- where the address means the cell, it is left with the value

@@ -2,13 +2,13 @@
 use mathlib.Core.Path.{_≡_, _∙_, refl, sym}
 use mathlib.Core.Bool.{Bool, true, false, not}
 use mathlib.Core.List.{List}
-use Prim.Native.Nat.{ℕ, _+_, _%_, _<_, _≤_}
+use Prim.Native.Nat.{ℕ, _+_, _%_, _<_}
 use native.Mathlib.Omega.{arith}
-use lib.Dec.{ltb, eqb}
-use lib.Bits.{bitAnd, and-le-r, or-zero-l, or-zero-r, xor-zero-l, xor-zero-r}
+use lib.Dec.{eqb}
+use lib.Bits.{and-le-r, or-zero-l, or-zero-r, xor-zero-l, xor-zero-r}
 use lib.ListN.{set}
 use lib.Seq.{getD-set-other}
-use borrow.Author.Tests.{ltb-true, eqb-true, eqb-false, not-true, not-false}
+use borrow.Author.Tests.{eqb-true, eqb-false, not-true, not-false}
 use Rattle.lent.specs.Lent.{both, at}
 use Rattle.word.specs.declared.Operation.{Operation}
 use Rattle.word.specs.declared.Operation.the-variants.{Adc, Add, Sbc, Sub, Eor, Or, And}

@@ -1,21 +1,20 @@
 -- The witness: a well-formed machine that runs at an address with nothing requested, whose cell holds a chosen nibble and is pointed at.
 use mathlib.Core.Path.{_≡_, _∙_, refl, sym}
-use mathlib.Core.Bool.{Bool, true, false}
+use mathlib.Core.Logic.{⊎-elim}
+use mathlib.Core.Bool.{true}
 use mathlib.Core.List.{List}
-use Prim.Native.Nat.{ℕ, _+_, _*_, _/_, _%_, _<_, _≤_}
+use Prim.Native.Nat.{ℕ, _/_, _%_, _<_}
 use native.Mathlib.Omega.{arith}
-use lib.Dec.{eqb}
 use lib.Bits.{bitAnd, and-mask, and-zero-l}
 use lib.ListN.{length, set, replicate, length-set, length-replicate}
 use lib.Seq.{getD-set-same, getD-set-other}
-use borrow.Author.Tests.{eqb-true, eqb-false, eq-eqb, ne-eqb}
-use Rattle.lent.specs.Lent.{pick, at}
-use Rattle.lent.proofs.Laws.{test}
+use borrow.Author.Tests.{ne-eqb}
+use Rattle.lent.specs.Lent.{at}
 use Rattle.sh_state.specs.declared.judge.Judged.the-variants.{Fine}
 use Rattle.sh_state.specs.declared.machine.Machine.{Machine}
 use Rattle.sh_state.specs.Judge.{stateJudged}
 use Rattle.sh_state.specs.Map.{kindOf, registerBits, heldIn, heldOf, askableOf}
-use Rattle.sh_state.specs.Periods.{ratios, ratioOf, baseRatios, baseRatioOf, periods, periodOf}
+use Rattle.sh_state.specs.Periods.{periods, periodOf}
 use Rattle.sh_state.specs.Record.{setPc, setAc, setCy, freshOf}
 use Rattle.sh_state.specs.State.{State, state}
 use Rattle.sh_state.proofs.Within.{nibble-within}
@@ -24,7 +23,7 @@ use Rattle.sh_cells.specs.Cells.{pointedOf, targetOf}
 use Rattle.sh_parts.specs.Interrupt.{dueOf}
 use Rattle.sh_parts.proofs.Laws.{zeros-at}
 use Rattle.writers.specs.Test.{names}
-use Rattle.writers.proofs.Cell.{past-registers, held-askable, never}
+use Rattle.writers.proofs.Cell.{past-registers, held-askable, names-only}
 
 -- the fresh record at an address, with AC and CY
 unfoldable pub arrived : ℕ → ℕ → ℕ → Machine
@@ -118,14 +117,10 @@ module _ (c v : ℕ) (h : askableOf c ≡ true) where
 
   -- an address that names the cell means it
   pub means : (x : ℕ) → names x c ≡ true → targetOf (pointing c v) x ≡ c
-  unfolding targetOf names
-  means x =
-      test (eqb x 0x0F) (λ t n. rw t points)
-      (λ t n. rw t (eqb-true x c (first (eqb x c) (rw t at n))))
-    where
-      first : (b : Bool) → pick b true false ≡ true → b ≡ true
-      first true e = refl
-      first false e = e
+  unfolding targetOf
+  means x n =
+      let b = past-registers c h in
+      ⊎-elim (λ e. rw (e, ne-eqb c 0x0F (omega arith))) (λ e. rw e points) (names-only x c n)
 
 pub arrived-well : (a ac cy c v : ℕ) → a < 4096 → ac < 16 → cy < 2 → v < 16 → askableOf c ≡ true → stateJudged (state (arrived a ac cy) (pointing c v)) ≡ Fine
 arrived-well a ac cy c v p q r k h = judged-of (pointing-fits (arrived a ac cy) (arrived-fits a ac cy p q r) c h v k)

@@ -115,7 +115,7 @@ fn count(program: &[u16], cell: u16) -> usize
 
 // The list in the room; what stands beyond it stays.
 fn fill(program: &[u16], cell: u16, room: &mut [u16])
-    requires { ⌜ (length (now program) ≤ 65536) × (length (writersOf (now program) cell) ≤ length (now room)) ⌝ }
+    requires { ⌜ (length (now program) ≡ 4096) × (length (writersOf (now program) cell) ≤ length (now room)) ⌝ }
     ensures { λ _. ⌜ now (room .exit) ≡ over (writersOf (now (program .entry)) cell) (now (room .entry)) ⌝ }
 {
     let mut n: usize = 0;
