@@ -25,7 +25,7 @@ abbrev pub Has : ℕ → List ℕ → Type 0
 Has a [] = ⊥
 Has a (b ∷ l) = (a ≡ b) ⊎ Has a l
 
--- "The list of writers is exact: for a program and a cell it holds an address exactly when" the instruction there can change the cell
+-- demand 3: it holds an address exactly when the instruction there can change the cell
 pub record Listing (p : List ℕ) (c : ℕ) (l : List ℕ) : Type 0 where
   pub ascending : Up 0 l
   pub only : (a : ℕ) → Has a l → Changes p a c

@@ -1,4 +1,5 @@
--- The test of one word and one cell: whether the word's instruction writes the cell with anything that may be another value.
+-- The test of one word and one cell of data, display or scan: whether the word's instruction writes the cell with anything that may be
+-- another value.
 use mathlib.Core.Bool.{Bool, true, false, not}
 use Prim.Native.Nat.{ℕ}
 use lib.Dec.{eqb}

@@ -1,5 +1,7 @@
-// The list of writers (01, the inspector's third demand): which addresses of a program hold an instruction that can leave a cell with another value.
+// The list of writers (the inspector's third question, demand 3): which addresses of a program hold an instruction that can leave a cell
+// with another value.
 use refusal::Refusal;
+use sh_state::machine::Machine;
 use sh_state::map;
 use word::Decoded;
 use word::ImmediateOperation;
@@ -78,7 +80,7 @@ fn instruction_writes(instruction: Instruction, cell: u16) -> bool
     }
 }
 
-// Whether a word's instruction can; a word that is not listed is none.
+// Whether a word's instruction can leave a cell of data, display or scan with another value; a word that is not listed is none.
 pub fn writes(word: u16, cell: u16) -> bool
     ensures { λ r. ⌜ r ≡ writesOf word cell ⌝ }
 {
@@ -133,7 +135,7 @@ fn fill(program: &[u16], cell: u16, room: &mut [u16])
 pub fn list(program: &[u16], cell: u32, room: &mut [u16]) -> Listed
     ensures { λ r. ⌜ outcome r (now (room .exit)) ≡ listOf (now (program .entry)) cell (now (room .entry)) ⌝ }
 {
-    if program.len() != 4096 {
+    if program.len() != Machine::WORDS {
         return Listed::Refused(Refusal::ProgramLength(program.len() as u64));
     }
     if !askable(cell) {
