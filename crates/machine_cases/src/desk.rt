@@ -1,0 +1,346 @@
+// A case: a fresh machine, what is changed on it, and the script that both calls are given.
+use crate::reader::Line;
+use crate::show;
+use calls::answer::Answer;
+use calls::answer::Outcome;
+use calls::fresh;
+use calls::run;
+use calls::step;
+use refusal::Refusal;
+use sh_state::machine::Machine;
+
+const NOP: u16 = 0xFFFF;
+
+pub struct Case {
+    machine: Machine,
+    // how many words, cells and events are lent
+    words: usize,
+    cells: usize,
+    events: usize,
+}
+
+// How far single steps came.
+struct Progress {
+    answer: Answer,
+    events: usize,
+}
+
+pub fn none() -> Case {
+    started(Machine::fresh(0))
+}
+
+fn started(machine: Machine) -> Case {
+    Case {
+        machine,
+        words: Machine::WORDS,
+        cells: Machine::CELLS,
+        events: 0,
+    }
+}
+
+// N options: a fresh machine. W address word, M address byte, R field number: a word, a cell, a field of the record. L words cells: how many are lent. S count event: events at the script's end. G stop: the script is run and stepped.
+pub fn done(
+    case: Case,
+    line: Line,
+    program: &mut [u16],
+    memory: &mut [u8],
+    again: &mut [u8],
+    script: &mut [u8],
+) -> Case {
+    let at = line.first as usize;
+    let word = (line.second % 0x10000) as u16;
+    let byte = (line.second % 256) as u8;
+    if line.letter == b'N' {
+        return fresh_case(line.second, program, memory);
+    }
+    if line.letter == b'W' {
+        put_word(program, at, word);
+        return case;
+    }
+    if line.letter == b'M' {
+        lent::poke(memory, at, byte);
+        return case;
+    }
+    if line.letter == b'R' {
+        return with_field(case, line.first, word);
+    }
+    if line.letter == b'L' {
+        return with_lengths(case, at, line.second as usize);
+    }
+    if line.letter == b'S' {
+        return with_events(case, script, line.first, byte);
+    }
+    if line.letter == b'G' {
+        return gone(case, line.second, program, memory, again, script);
+    }
+    case
+}
+
+fn put_word(program: &mut [u16], i: usize, word: u16) {
+    if i < program.len() {
+        program[i] = word;
+    }
+}
+
+fn fresh_case(options: u32, program: &mut [u16], memory: &mut [u8]) -> Case {
+    clear_program(program);
+    lent::clear(memory);
+    let n = Machine::CELLS;
+    if n <= memory.len() {
+        return fresh_on(options, &mut memory[..n]);
+    }
+    none()
+}
+
+fn fresh_on(options: u32, memory: &mut [u8]) -> Case {
+    let a = fresh::fresh(options, memory);
+    let o = a.outcome;
+    show::text(b"fresh");
+    show::outcome(o);
+    show::text(b"\n");
+    let m = a.machine;
+    started(m)
+}
+
+fn clear_program(program: &mut [u16]) {
+    let mut i: usize = 0;
+    while i < program.len() {
+        program[i] = NOP;
+        i += 1;
+    }
+}
+
+fn with_lengths(case: Case, words: usize, cells: usize) -> Case {
+    let mut after = case;
+    after.words = words;
+    after.cells = cells;
+    after
+}
+
+fn with_field(case: Case, field: u32, value: u16) -> Case {
+    let m = changed(case.machine, field, value);
+    Case {
+        machine: m,
+        words: case.words,
+        cells: case.cells,
+        events: case.events,
+    }
+}
+
+// The record with its field of a number changed, counted in 01's order with each stack entry and each port's pins as one.
+fn changed(m: Machine, field: u32, value: u16) -> Machine {
+    let byte = (value % 256) as u8;
+    let mut n = m;
+    if field == 0 {
+        n.pc = value;
+        return n;
+    }
+    if field == 1 {
+        n.ac = byte;
+        return n;
+    }
+    if field == 2 {
+        n.cy = byte;
+        return n;
+    }
+    if field == 3 {
+        n.mode = byte;
+        return n;
+    }
+    if field < 12 {
+        let i = (field - 4) as usize;
+        let mut s = m.stack;
+        s[i] = value;
+        n.stack = s;
+        return n;
+    }
+    if field == 12 {
+        n.prescaler = value;
+        return n;
+    }
+    if field == 13 {
+        n.counter = byte;
+        return n;
+    }
+    if field == 14 {
+        n.load = byte;
+        return n;
+    }
+    changed_further(m, field, value, byte)
+}
+
+fn changed_further(m: Machine, field: u32, value: u16, byte: u8) -> Machine {
+    let mut n = m;
+    if field == 15 {
+        n.baseprescaler = byte;
+        return n;
+    }
+    if field == 16 {
+        n.basecounter = byte;
+        return n;
+    }
+    if field == 17 {
+        n.watchdog = value;
+        return n;
+    }
+    if field == 18 {
+        n.pina = byte;
+        return n;
+    }
+    if field == 19 {
+        n.pinb = byte;
+        return n;
+    }
+    if field == 20 {
+        n.pinc = byte;
+        return n;
+    }
+    if field == 21 {
+        n.pind = byte;
+        return n;
+    }
+    if field == 22 {
+        n.options = byte;
+        return n;
+    }
+    if field == 23 {
+        n.pending = byte;
+        return n;
+    }
+    if field == 24 {
+        n.address = value;
+        return n;
+    }
+    n
+}
+
+fn with_events(case: Case, script: &mut [u8], count: u32, event: u8) -> Case {
+    let from = case.events;
+    let n = appended(script, from, count, event);
+    let mut after = case;
+    after.events = n;
+    after
+}
+
+// An event put behind the first ones, as often as asked and as the room allows; how many there are then.
+fn appended(script: &mut [u8], from: usize, count: u32, event: u8) -> usize {
+    let mut at = from;
+    let mut left = count;
+    while left != 0 {
+        if at >= script.len() {
+            return at;
+        }
+        script[at] = event;
+        at += 1;
+        left -= 1;
+    }
+    at
+}
+
+// The case after its script, which is then empty.
+fn gone(
+    case: Case,
+    stop: u32,
+    program: &[u16],
+    memory: &mut [u8],
+    again: &mut [u8],
+    script: &[u8],
+) -> Case {
+    let n = case.words;
+    if n <= program.len() {
+        return gone_words(case, stop, &program[..n], memory, again, script);
+    }
+    case
+}
+
+fn gone_words(
+    case: Case,
+    stop: u32,
+    program: &[u16],
+    memory: &mut [u8],
+    again: &mut [u8],
+    script: &[u8],
+) -> Case {
+    let n = case.events;
+    if n <= script.len() {
+        return gone_events(case, stop, program, memory, again, &script[..n]);
+    }
+    case
+}
+
+fn gone_events(
+    case: Case,
+    stop: u32,
+    program: &[u16],
+    memory: &mut [u8],
+    again: &mut [u8],
+    script: &[u8],
+) -> Case {
+    let n = case.cells;
+    if n > memory.len() {
+        return case;
+    }
+    if n > again.len() {
+        return case;
+    }
+    lent::paste(again, 0, memory);
+    stepped(program, case.machine, &mut again[..n], script);
+    let m = ran(program, case.machine, &mut memory[..n], script, stop);
+    Case {
+        machine: m,
+        words: case.words,
+        cells: case.cells,
+        events: 0,
+    }
+}
+
+// The script by one call of run.
+fn ran(program: &[u16], m: Machine, memory: &mut [u8], script: &[u8], stop: u32) -> Machine {
+    let a = run::run(program, m, memory, script, stop);
+    let why = a.reason;
+    show::text(b"run");
+    show::reason(why);
+    show::left(a.events, a.machine, memory);
+    a.machine
+}
+
+// The script by a call of step for each event, up to the first refusal.
+fn stepped(program: &[u16], m: Machine, memory: &mut [u8], script: &[u8]) {
+    let s = steps(program, m, memory, script);
+    let a = s.answer;
+    let o = a.outcome;
+    show::text(b"step");
+    show::outcome(o);
+    show::left(s.events, a.machine, memory);
+}
+
+fn steps(program: &[u16], m: Machine, memory: &mut [u8], script: &[u8]) -> Progress {
+    let mut now = m;
+    let mut i: usize = 0;
+    while i < script.len() {
+        let a = step::step(program, now, memory, script[i]);
+        now = a.machine;
+        let o = a.outcome;
+        if let Outcome::Refused(why) = o {
+            return refused(why, now, i);
+        }
+        i += 1;
+    }
+    Progress {
+        answer: Answer {
+            outcome: Outcome::Done,
+            machine: now,
+        },
+        events: i,
+    }
+}
+
+fn refused(why: Refusal, m: Machine, events: usize) -> Progress {
+    Progress {
+        answer: Answer {
+            outcome: Outcome::Refused(why),
+            machine: m,
+        },
+        events,
+    }
+}
