@@ -19,7 +19,6 @@ use Rattle.sh_state.specs.State.{State, state}
 use Rattle.sh_state.proofs.Below.{both-hold}
 use Rattle.sh_state.proofs.Fits.{Fit, fit-of, cell-small}
 use Rattle.sh_cells.specs.Cells.{targetOf, valueOf}
-use Rattle.sh_execute.specs.Execute.{executeOf}
 use Rattle.writers.specs.Statement.{Changes}
 use Rattle.writers.specs.Test.{names, writesIn, writesBy, writesOf}
 use Rattle.writers.proofs.Cell.{never, past-registers, kept-askable, value-askable, names-itself, names-pointed}
