@@ -33,8 +33,8 @@ use Rattle.writers.proofs.Forms.Form.{Writes, Leaves}
 -- waking clears the pending read and the mode, by which no instruction writes
 woken-same : (i : Instruction) (c : ℕ) → Form i c → (m : Machine) (l : List ℕ) → at (executeOf (state (wokenOf m) l) i .memory) c ≡ at (executeOf (state m l) i .memory) c
 unfolding leftOf valueOf wokenOf readTakenOf setMode setPending
-woken-same i c (Writes x value may w after test) m l = ap (λ (k : List ℕ). at k c) (after (state (wokenOf m) l) ∙ sym (after (state m l)))
-woken-same i c (Leaves same test) m l = same (state (wokenOf m) l) ∙ sym (same (state m l))
+woken-same i c (Writes x value may w after passes) m l = ap (λ (k : List ℕ). at k c) (after (state (wokenOf m) l) ∙ sym (after (state m l)))
+woken-same i c (Leaves same fails) m l = same (state (wokenOf m) l) ∙ sym (same (state m l))
 
 module _ (c : ℕ) (h : 0x20 ≤ c) where
   -- a store below $020
