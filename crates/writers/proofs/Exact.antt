@@ -19,7 +19,6 @@ use Rattle.sh_state.specs.State.{State, state}
 use Rattle.sh_state.proofs.Below.{both-hold}
 use Rattle.sh_state.proofs.Fits.{Fit, fit-of, cell-small}
 use Rattle.sh_cells.specs.Cells.{targetOf, valueOf}
-use Rattle.sh_execute.specs.Execute.{executeOf}
 use Rattle.writers.specs.Statement.{Changes}
 use Rattle.writers.specs.Test.{names, writesIn, writesBy, writesOf}
 use Rattle.writers.proofs.Cell.{never, past-registers, kept-askable, value-askable, names-itself, names-pointed}
@@ -66,18 +65,18 @@ unfolding writesOf writesBy
 sound p a c h d = rw (d .reads) (by-form (form-of (d .instruction) c (encode-decode (at p a) (d .instruction) (d .reads) .0) h))
   where
     by-form : Form (d .instruction) c → writesIn (d .instruction) c ≡ true
-    by-form (Writes x value may w after test) =
-        test ∙ changed-writes (d .before) (fit-of (d .before) (d .wellFormed)) c h x value may w (λ e. d .differs (ap (λ (l : List ℕ). at l c) (after (d .before)) ∙ e))
-    by-form (Leaves same test) = absurd (d .differs (same (d .before)))
+    by-form (Writes x value may w after passes) =
+        passes ∙ changed-writes (d .before) (fit-of (d .before) (d .wellFormed)) c h x value may w (λ e. d .differs (ap (λ (l : List ℕ). at l c) (after (d .before)) ∙ e))
+    by-form (Leaves same fails) = absurd (d .differs (same (d .before)))
 
 pub complete : (p : List ℕ) (a c : ℕ) → askableOf c ≡ true → a < 4096 → writesOf (at p a) c ≡ true → Changes p a c
 unfolding writesOf writesBy arrived setPc setAc setCy freshOf
 complete p a c h k = by-word (decodeOf (at p a)) refl
   where
     by-form : (i : Instruction) → decodeOf (at p a) ≡ Decoded.Listed i → Form i c → writesIn i c ≡ true → Changes p a c
-    by-form i e (Leaves same test) t = never (sym test ∙ t)
-    by-form i e (Writes x value may w after test) t =
-        let b = both-hold (names x c) may (sym test ∙ t) in
+    by-form i e (Leaves same fails) t = never (sym fails ∙ t)
+    by-form i e (Writes x value may w after passes) t =
+        let b = both-hold (names x c) may (sym passes ∙ t) in
         let m = arrived a (w .ac) (w .cy) in
         let s : State = state m (pointing c (w .cell)) in
         let well = arrived-well a (w .ac) (w .cy) c (w .cell) k (w .small .1) (w .small .2) (w .small .0) h in

@@ -17,7 +17,7 @@ use Rattle.word.specs.Word.{decodeOf}
 use Rattle.sh_state.specs.Map.{askableIn, askableOf}
 use Rattle.sh_state.proofs.Laws.{kind-past}
 use Rattle.writers.specs.Test.{changing, writesIn, writesBy, writesOf}
-use Rattle.writers.specs.List.{writersFrom, writersOf}
+use Rattle.writers.specs.List.{writersFrom}
 use Rattle.writers.specs.Answer.{over}
 
 pub changing-at : {o k : ImmediateOperation} {r : Bool} (i : ℕ) → o ≡ k → r ≡ changing k i → r ≡ changing o i

@@ -1,6 +1,6 @@
 -- The list of writers is the list that the statement asks for, and no other list is: it holds what passes the test, which is what the statement says, and two ascending lists with the same members are equal.
 use mathlib.Core.Path.{_≡_, refl, sym, ap, subst, _∙_}
-use mathlib.Core.Logic.{_⊎_, inl, inr, ⊎-elim}
+use mathlib.Core.Logic.{inl, inr, ⊎-elim}
 use mathlib.Core.Bool.{true}
 use mathlib.Core.List.{List, [], _∷_}
 use Prim.Native.Nat.{ℕ, zero, suc, _+_, _≤_, _<_}
@@ -10,7 +10,6 @@ use lib.ListN.{length}
 use Rattle.lent.specs.Lent.{at}
 use Rattle.sh_state.specs.Map.{askableOf}
 use Rattle.sh_state.proofs.Fits.{fit-of}
-use Rattle.writers.specs.Statement.{Changes}
 use Rattle.writers.specs.Test.{writesOf}
 use Rattle.writers.specs.List.{writersFrom, writersOf, Up, Has, Listing}
 use Rattle.writers.proofs.Laws.{by-test}

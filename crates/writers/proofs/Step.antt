@@ -14,6 +14,8 @@ use Rattle.word.specs.declared.Instruction.{Instruction}
 use Rattle.word.specs.Word.{decodeOf}
 use Rattle.word.proofs.RoundTrip.{encode-decode}
 use Rattle.sh_state.specs.declared.machine.Machine.{Machine}
+use Rattle.sh_state.specs.declared.judge.Judged.the-variants.{Fine}
+use Rattle.sh_state.specs.Judge.{stateJudged}
 use Rattle.sh_state.specs.Map.{askableOf}
 use Rattle.sh_state.specs.Record.{setMode, setPending}
 use Rattle.sh_state.specs.State.{State, state}
@@ -23,6 +25,7 @@ use Rattle.sh_parts.specs.Interrupt.{dueOf, awakeOf}
 use Rattle.sh_execute.specs.Execute.{executeOf}
 use Rattle.sh_cycle.specs.Cycle.{readTakenOf, wokenOf, wordInOf, landedOf, clockOf, finishedOf, executedOf, instructedOf, awakeCycleOf, cycleDueOf, cycleOf}
 use Rattle.sh_cycle.specs.Event.{eventOf}
+use Rattle.writers.specs.Statement.{Changes}
 use Rattle.writers.proofs.Cell.{past-registers}
 use Rattle.writers.proofs.Forms.{leftOf, Form, form-of}
 use Rattle.writers.proofs.Forms.Form.{Writes, Leaves}
@@ -30,8 +33,8 @@ use Rattle.writers.proofs.Forms.Form.{Writes, Leaves}
 -- waking clears the pending read and the mode, by which no instruction writes
 woken-same : (i : Instruction) (c : ℕ) → Form i c → (m : Machine) (l : List ℕ) → at (executeOf (state (wokenOf m) l) i .memory) c ≡ at (executeOf (state m l) i .memory) c
 unfolding leftOf valueOf wokenOf readTakenOf setMode setPending
-woken-same i c (Writes x value may w after test) m l = ap (λ (k : List ℕ). at k c) (after (state (wokenOf m) l) ∙ sym (after (state m l)))
-woken-same i c (Leaves same test) m l = same (state (wokenOf m) l) ∙ sym (same (state m l))
+woken-same i c (Writes x value may w after passes) m l = ap (λ (k : List ℕ). at k c) (after (state (wokenOf m) l) ∙ sym (after (state m l)))
+woken-same i c (Leaves same fails) m l = same (state (wokenOf m) l) ∙ sym (same (state m l))
 
 module _ (c : ℕ) (h : 0x20 ≤ c) where
   -- a store below $020
@@ -72,3 +75,27 @@ step-changes p s i c r q e h =
     ap (λ (t : State). at (t .memory) c) (executed p s i r q e .1)
     ∙ (finished-stays c (past-registers c h .0) p (s .machine) _
     ∙ woken-same i c (form-of i c (encode-decode (at p (s .machine .pc)) i e .0) h) (s .machine) (s .memory))
+
+-- So the list is about what the event does: where the statement holds, the event leaves its machine's cell with another value,
+pub step-differs : (p : List ℕ) (a c : ℕ) → askableOf c ≡ true → (d : Changes p a c) → at (eventOf p (d .before) 0x00 .after .memory) c ≡ at (d .before .memory) c → ⊥
+step-differs p a c h d e =
+    d .differs (sym (step-changes p (d .before) (d .instruction) c (d .running) (d .quiet) (rw (d .there) (d .reads)) h) ∙ e)
+
+-- and where the event of some well-formed machine, running, with nothing due, does that, the statement holds of its counter.
+pub differs-by-step : (p : List ℕ) (s : State) (c : ℕ) → askableOf c ≡ true → stateJudged s ≡ Fine → s .machine .mode ≡ 0 → dueOf (s .memory) ≡ 0
+    → (at (eventOf p s 0x00 .after .memory) c ≡ at (s .memory) c → ⊥) → Changes p (s .machine .pc) c
+unfolding eventOf cycleOf cycleDueOf awakeOf awakeCycleOf instructedOf
+differs-by-step p s c h f r q n = by-word (decodeOf (at p (s .machine .pc))) refl
+  where
+    by-word : (d : Decoded) → decodeOf (at p (s .machine .pc)) ≡ d → Changes p (s .machine .pc) c
+    by-word (Decoded.Listed i) e = record {
+      before = s;
+      wellFormed = f;
+      running = r;
+      quiet = q;
+      there = refl;
+      instruction = i;
+      reads = e;
+      differs = λ k. n (step-changes p s i c r q e h ∙ k);
+    }
+    by-word (Decoded.Refused why) e = absurd (n (rw (q, r, e)))

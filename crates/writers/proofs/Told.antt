@@ -1,6 +1,5 @@
 -- What the answer of the call says: a count is the length of the exact list, which stands in the room, and a refusal leaves the room.
-use mathlib.Core.Path.{_≡_, refl, sym}
-use mathlib.Core.Bool.{true, false}
+use mathlib.Core.Path.{_≡_, refl}
 use mathlib.Core.List.{List}
 use Prim.Native.Nat.{ℕ, _<_}
 use native.Mathlib.Omega.{arith}

@@ -16,7 +16,7 @@ use Rattle.sh_state.specs.Judge.{stateJudged}
 use Rattle.sh_state.specs.Map.{kindOf, registerBits, heldIn, heldOf, askableOf}
 use Rattle.sh_state.specs.Periods.{periods, periodOf}
 use Rattle.sh_state.specs.Record.{setPc, setAc, setCy, freshOf}
-use Rattle.sh_state.specs.State.{State, state}
+use Rattle.sh_state.specs.State.{state}
 use Rattle.sh_state.proofs.Within.{nibble-within}
 use Rattle.sh_state.proofs.Fits.{Fit, MemoryFit, MachineFit, ratio-positive, base-ratio-positive, pc-fits, ac-fits, cy-fits, fit-at, store-keeps, judged-of}
 use Rattle.sh_cells.specs.Cells.{pointedOf, targetOf}

@@ -1,5 +1,4 @@
 -- The answer of the call: the list of writers, or a refusal (01, the table: 1, 8, 7 last), and what the lent room holds after it.
-use mathlib.Core.Bool.{Bool}
 use mathlib.Core.List.{List, _++_}
 use Prim.Native.Nat.{ℕ}
 use lib.Dec.{ltb, eqb}

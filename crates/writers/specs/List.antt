@@ -7,7 +7,7 @@ use Rattle.lent.specs.Lent.{pick}
 use Rattle.writers.specs.Statement.{Changes}
 use Rattle.writers.specs.Test.{writesOf}
 
--- the addresses, the first of them a, of the words that pass the test
+-- the addresses of the words that pass the test, where the first word stands at a
 unfoldable pub writersFrom : ℕ → List ℕ → ℕ → List ℕ
 writersFrom a [] c = []
 writersFrom a (w ∷ p) c = pick (writesOf w c) (a ∷ writersFrom (a + 1) p c) (writersFrom (a + 1) p c)

@@ -2,10 +2,10 @@
 use Prim.Native.Nat.{ℕ, _+_, _-_, _≤_, _<_}
 use mathlib.Core.Path.{_≡_, _∙_, refl, sym, ap}
 use mathlib.Core.Logic.{⊎-elim}
-use mathlib.Core.List.{List, [], _∷_}
+use mathlib.Core.List.{List}
 use native.Mathlib.Omega.{arith}
 use borrow.Author.Needs.{needs}
-use lib.ListN.{length, drop, set, length-set}
+use lib.ListN.{length, drop, length-set}
 use Rattle.writers.specs.List.{writersFrom, writersOf}
 use Rattle.writers.specs.Answer.{over}
 use Rattle.writers.proofs.Laws.{none-left, one-here, none-here, placed, placed-start, placed-end, placed-on}

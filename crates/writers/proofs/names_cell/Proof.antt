@@ -1,5 +1,5 @@
 -- `writers::names_cell`: the same tests in the same order.
-use borrow.Author.Tests.{lt-ltb, le-ltb, eq-eqb, ne-eqb}
+use borrow.Author.Tests.{eq-eqb, ne-eqb}
 use Rattle.writers.specs.Test.{names}
 use Rattle.writers.proofs.names_cell.Statement.{statement}
 use Rattle.writers.proofs.names_cell.Tie as tie
