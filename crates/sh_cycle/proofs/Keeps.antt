@@ -23,7 +23,7 @@ use Rattle.sh_parts.specs.Interrupt.{dueOf, awakeOf}
 use Rattle.sh_parts.specs.Watchdog.{expiresOf}
 use Rattle.sh_parts.proofs.Kept.{MovedFit, requested-keeps, clocked-keeps, fallen-keeps, base-pulsed-keeps, counted-down-keeps, interrupted-keeps, reset-keeps, pin-a-keeps, pin-b-keeps, pin-c-keeps, pin-d-keeps, mode-keeps, cleared-keeps, landed-keeps}
 use Rattle.sh_execute.proofs.Kept.{execute-keeps}
-use Rattle.sh_cycle.specs.Cycle.{Happened, happened, movedOf, readTakenOf, wokenOf, wordInOf, landedOf, clockOf, finishedOf, executedOf, instructedOf, interruptCycleOf, awakeCycleOf, asleepCycleOf, cycleDueOf, cycleOf}
+use Rattle.sh_cycle.specs.Cycle.{Happened, movedOf, readTakenOf, wokenOf, wordInOf, landedOf, clockOf, finishedOf, executedOf, instructedOf, interruptCycleOf, awakeCycleOf, asleepCycleOf, cycleDueOf, cycleOf}
 use Rattle.sh_cycle.specs.Ports.{externalOf, fallingOf, portAOf, portRequestOf, portEdgesOf, portBOf, portCOf}
 use Rattle.sh_cycle.specs.Event.{basePulseOf, watchdogPulseOf, pinsOf, otherOf, eventOf}
 
@@ -35,10 +35,10 @@ by-test P false x y f g = g
 moved-keeps : {l : List ℕ} {r : Moved} → MovedFit l r → Fit (movedOf l r)
 moved-keeps {l} {r} f = requested-keeps (f .fit) (r .requests) (f .requests)
 
-module _ (p : List ℕ) {s : State} (f : Fit s) where
-  landed-in-keeps : (start : Machine) → Fit (state (s .machine) (landedOf p start (s .memory)))
+module _ {s : State} (f : Fit s) where
+  landed-in-keeps : (p : List ℕ) (start : Machine) → Fit (state (s .machine) (landedOf p start (s .memory)))
   unfolding landedOf wordInOf
-  landed-in-keeps start =
+  landed-in-keeps p start =
       by-eq (λ l. Fit (state (s .machine) l)) (start .pending) 1 _ _ (λ e. landed-keeps f _ _ _ _ (omega arith) (omega arith) (omega arith) (omega arith))
       (λ n. f)
 
@@ -52,24 +52,24 @@ module _ (p : List ℕ) {s : State} (f : Fit s) where
 
 finished-keeps : (p : List ℕ) (start : Machine) {s : State} → Fit s → Fit (finishedOf p start s)
 unfolding finishedOf clockOf
-finished-keeps p start f = moved-keeps (clocked-keeps (landed-in-keeps p f start))
+finished-keeps p start f = moved-keeps (clocked-keeps (landed-in-keeps f p start))
 
 module _ (p : List ℕ) {s : State} (f : Fit s) where
   -- an unlisted word leaves the state
   instructed-keeps : (w : ℕ) (d : Decoded) → decodeOf w ≡ d → Fit (instructedOf p s d .after)
   unfolding instructedOf executedOf
-  instructed-keeps w (Listed i) e = finished-keeps p (s .machine) (execute-keeps i (encode-decode w i e .0) (woken-keeps p f))
+  instructed-keeps w (Listed i) e = finished-keeps p (s .machine) (execute-keeps i (encode-decode w i e .0) (woken-keeps f))
   instructed-keeps w (Refused why) e = f
 
   awake-keeps : (due : ℕ) → Fit (awakeCycleOf p s due .after)
   unfolding awakeCycleOf interruptCycleOf
   awake-keeps due =
       by-eq (λ (h : Happened). Fit (h .after)) due 0 _ _ (λ e. instructed-keeps (at p (s .machine .pc)) _ refl)
-      (λ n. finished-keeps p (s .machine) (interrupted-keeps (woken-keeps p f) due))
+      (λ n. finished-keeps p (s .machine) (interrupted-keeps (woken-keeps f) due))
 
   asleep-keeps : Fit (asleepCycleOf p s)
   unfolding asleepCycleOf
-  asleep-keeps = by-eq Fit (s .machine .mode) 1 _ _ (λ e. finished-keeps p (s .machine) (read-taken-keeps p f)) (λ n. f)
+  asleep-keeps = by-eq Fit (s .machine .mode) 1 _ _ (λ e. finished-keeps p (s .machine) (read-taken-keeps f)) (λ n. f)
 
   pub cycle-keeps : Fit (cycleOf p s .after)
   unfolding cycleOf cycleDueOf

@@ -1,6 +1,5 @@
 -- Numbers 7 and 8 of 01, "Numbers to check by".
 use mathlib.Core.Path.{_≡_, refl}
-use Prim.Native.Nat.{ℕ}
 use Rattle.lent.specs.Lent.{at}
 use Rattle.sh_state.specs.Record.{setPc}
 use Rattle.sh_state.specs.State.{State}

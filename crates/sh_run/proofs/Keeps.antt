@@ -1,9 +1,7 @@
 -- A run keeps a well-formed machine well formed, wherever it stops.
 use mathlib.Core.Path.{_≡_}
-use mathlib.Core.Bool.{Bool, true, false}
 use mathlib.Core.List.{List, [], _∷_}
 use Prim.Native.Nat.{ℕ, _+_}
-use Rattle.lent.specs.Lent.{pick}
 use Rattle.sh_state.specs.declared.judge.Judged.the-variants.{Fine}
 use Rattle.sh_state.specs.Judge.{stateJudged}
 use Rattle.sh_state.specs.State.{State}
