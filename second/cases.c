@@ -7,6 +7,8 @@
      R field number   a field of the record, in document 01's order, each stack entry and each port's pins one field
      L words cells    how many are lent
      S count event    events at the script's end
+     P seed           a program drawn from the seed
+     X count seed     events drawn from the seed, at the script's end
      G stop           the script by a step for each event, and then from the same start by one run, which the case
                       goes on from with an empty script */
 #include "second.h"
@@ -80,6 +82,39 @@ static void print_left(uint64_t done, const uint8_t *of_record, const uint8_t *o
         if (of_memory[at] != 0)
             printf(" %03x=%x", (unsigned)at, of_memory[at]);
     printf("\n");
+}
+
+/* The rule by which programs and events are drawn: the upper half of each number of this row says which. */
+static uint32_t drawn(uint32_t before)
+{
+    return before * 1664525u + 1013904223u;
+}
+
+static void draw_program(uint32_t seed)
+{
+    /* In place of words that may be unlisted: RTNI, HALT, STOP, SHR, TJMP, NOP, DAA, DAS, RTNW, LDI to the enable
+       flags, ROM data, Timer0, base timer and watchdog, and STA through the pointer. */
+    static const uint16_t rare[16] = {0xD400, 0xD800, 0xDC00, 0xF000, 0xF7FF, 0xFFFF, 0xCB20, 0xCD21,
+                                      0xD05A, 0x7F80, 0x7A00, 0x7C1A, 0x7F02, 0x7D03, 0x7C9E, 0x3C0F};
+
+    for (size_t at = 0; at < ROOM_WORDS; at++, seed = drawn(seed)) {
+        unsigned word = seed >> 16;
+
+        if (word >= 0xC800 && (word < 0xE000 || word > 0xEFFF))
+            word = rare[word % 16];
+        program[2 * at] = (uint8_t)(word >> 8);
+        program[2 * at + 1] = (uint8_t)word;
+    }
+}
+
+/* Of 128 draws 4 are the first four events and 64 are pins; the rest are cycles. */
+static void draw_events(size_t count, uint32_t seed)
+{
+    for (; count > 0; count--, seed = drawn(seed)) {
+        unsigned event = seed >> 16 & 127;
+
+        script[events++] = event < 4 || (event >= 0x10 && event < 0x50) ? (uint8_t)event : 0;
+    }
 }
 
 /* The value with 1 is told in bytes here and printed in words. */
@@ -171,6 +206,12 @@ static void work(char letter, unsigned first, unsigned second)
         memset(script + events, (int)second, first);
         events += first;
         break;
+    case 'P':
+        draw_program(second);
+        break;
+    case 'X':
+        draw_events(first, second);
+        break;
     case 'G':
         step_each();
         run_whole(second);
@@ -195,6 +236,8 @@ static int fits(char letter, unsigned first, unsigned second)
         return first <= ROOM_WORDS && second <= ROOM_CELLS;
     case 'S':
         return first <= ROOM_EVENTS - events && second <= 0xFF;
+    case 'X':
+        return first <= ROOM_EVENTS - events && second <= 0xFFFF;
     default:
         return second <= 0xFFFF;
     }

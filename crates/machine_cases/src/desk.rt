@@ -1,4 +1,5 @@
 // A case: a fresh machine, what is changed on it, and the script that both calls are given.
+use crate::drawn;
 use crate::reader::Line;
 use crate::show;
 use calls::answer::Answer;
@@ -38,7 +39,7 @@ fn started(machine: Machine) -> Case {
     }
 }
 
-// N options: a fresh machine. W address word, M address byte, R field number: a word, a cell, a field of the record. L words cells: how many are lent. S count event: events at the script's end. G stop: the script is run and stepped.
+// N options: a fresh machine. W address word, M address byte, R field number: a word, a cell, a field of the record. L words cells: how many are lent. S count event: events at the script's end. P seed, X count seed: a program and events that are drawn. G stop: the script is stepped and run.
 pub fn done(
     case: Case,
     line: Line,
@@ -69,6 +70,13 @@ pub fn done(
     }
     if line.letter == b'S' {
         return with_events(case, script, line.first, byte);
+    }
+    if line.letter == b'P' {
+        drawn::program(program, line.second);
+        return case;
+    }
+    if line.letter == b'X' {
+        return with_drawn(case, script, line.first, line.second);
     }
     if line.letter == b'G' {
         return gone(case, line.second, program, memory, again, script);
@@ -217,6 +225,14 @@ fn changed_further(m: Machine, field: u32, value: u16, byte: u8) -> Machine {
 fn with_events(case: Case, script: &mut [u8], count: u32, event: u8) -> Case {
     let from = case.events;
     let n = appended(script, from, count, event);
+    let mut after = case;
+    after.events = n;
+    after
+}
+
+fn with_drawn(case: Case, script: &mut [u8], count: u32, seed: u32) -> Case {
+    let from = case.events;
+    let n = drawn::events(script, from, count, seed);
     let mut after = case;
     after.events = n;
     after

@@ -1,5 +1,6 @@
 // Works the cases of standard input: each line is a letter and up to two hexadecimal numbers, and what the calls run and step answer and leave is written.
 mod desk;
+mod drawn;
 mod reader;
 mod show;
 
