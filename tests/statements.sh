@@ -1,0 +1,45 @@
+#!/usr/bin/env bash
+# Every public function of every library crate has an `ensures` and a row in docs/STATEMENTS.md, and every must-fail edit is named there.
+# Its last line is 'N passed, M failed'.
+set -u
+cd "$(dirname "$0")/.." || exit 2
+passed=0 failed=0
+wrong() {
+    failed=$((failed + 1))
+    echo "FAILED: $1"
+}
+
+for crate in crates/*/; do
+    [ -e "$crate/src/main.rt" ] && continue
+    name=$(basename "$crate")
+    section=$(awk -v s="## \`$name\`" '$0 == s { on = 1; next } /^## / { on = 0 } on' docs/STATEMENTS.md)
+    for file in "$crate"src/*.rt; do
+        module=$(basename "$file" .rt)
+        # what stands in a private module is not public
+        [ "$module" = lib ] || grep -q "^pub mod $module;" "$crate/src/lib.rt" || continue
+        while read -r fn promised; do
+            row="[:\`]$fn\` |"
+            if ! printf '%s\n' "$section" | grep -q "$row"; then
+                wrong "$file: $fn has no row in docs/STATEMENTS.md"
+            elif [ "$promised" != yes ]; then
+                wrong "$file: $fn has no ensures"
+            else
+                passed=$((passed + 1))
+            fi
+        done < <(awk '
+            match($0, /^[ \t]*pub (extern "C" )?fn [a-z_0-9]+/) { fn = substr($0, RSTART, RLENGTH); sub(/.* /, "", fn); has = "no"; head = 1 }
+            head && /ensures/ { has = "yes" }
+            head && /^[ \t]*\{[ \t]*$/ { print fn, has; head = 0 }' "$file")
+    done
+    for edit in "$crate"must-fail/*.edit; do
+        [ -e "$edit" ] || continue
+        label=$(basename "$edit" .edit)
+        if printf '%s\n' "$section" | grep -qF "| \`$label\` |"; then
+            passed=$((passed + 1))
+        else
+            wrong "$edit is not named in docs/STATEMENTS.md"
+        fi
+    done
+done
+echo "$passed passed, $failed failed"
+[ "$failed" -eq 0 ]
