@@ -6,11 +6,7 @@ use native.Mathlib.Omega.{arith}
 use lib.Dec.{ltb, eqb}
 use borrow.Author.Tests.{ltb-true, eqb-true, eqb-false}
 use Rattle.lent.specs.Lent.{pick, both}
-use Rattle.lent.proofs.Laws.{test}
-
-pub both-hold : (a b : Bool) → both a b ≡ true → (a ≡ true) × (b ≡ true)
-both-hold true b e = (refl, e)
-both-hold false b e = let z : _≡_ {A = ℕ} 0 1 = cc in absurd (omega arith)
+use Rattle.lent.proofs.Laws.{both-true, test}
 
 pub pick-hold : (a b : Bool) → pick a b false ≡ true → (a ≡ true) × (b ≡ true)
 pick-hold true b e = (refl, e)
@@ -27,7 +23,7 @@ pub below-at : (n : ℕ) (f : ℕ → Bool) (i : ℕ) → below n f ≡ true →
 unfolding below
 below-at zero f i e h = absurd (omega arith)
 below-at (suc n) f i e h =
-    let p = both-hold (f n) (below n f) e in
+    let p = both-true (f n) (below n f) e in
     test (eqb i n) (λ t. let q = eqb-true i n t in rw q (p .0))
     (λ t. let q = eqb-false i n t in below-at n f i (p .1) (omega arith))
 

@@ -11,7 +11,7 @@ use lib.ListN.{length, set, length-set}
 use lib.Seq.{set-out, getD-set-same, getD-set-other}
 use borrow.Author.Tests.{ltb-true, ltb-false, leb-true, eqb-true, eqb-false, lt-ltb, le-leb, eq-eqb, ne-eqb}
 use Rattle.lent.specs.Lent.{pick, both, at}
-use Rattle.lent.proofs.Laws.{test, by-eq, at-past}
+use Rattle.lent.proofs.Laws.{both-true, test, by-eq, at-past}
 use Rattle.refusal.specs.declared.Refusal.the-variants as refusal
 use Rattle.sh_state.specs.declared.judge.Judged.{Judged}
 use Rattle.sh_state.specs.declared.judge.Judged.the-variants.{Fine, Refused}
@@ -26,7 +26,7 @@ use Rattle.sh_state.specs.Periods.{ratios, ratioOf, baseRatios, baseRati
 use Rattle.sh_state.specs.Record.{setPc, setAc, setCy, setMode, setStack, setPrescaler, setCounter, setLoad, setBasePrescaler, setBaseCounter, setWatchdog, setPinA, setPinB, setPinC, setPinD, setPending, pushed, popped, pushOf, popOf, entryOf}
 use Rattle.sh_state.specs.Rules.{cellFits, brokenFrom, cpuFits, stackFits, timer0Fits, baseFits, watchdogFits, bytesFit, pinsFit, optionsFit, pendingFits, tiesFit, wellFormedOf}
 use Rattle.sh_state.specs.State.{State, state}
-use Rattle.sh_state.proofs.Below.{both-hold, pick-hold, lt-hold, below, below-at}
+use Rattle.sh_state.proofs.Below.{pick-hold, lt-hold, below, below-at}
 
 -- a memory that keeps the memory rules
 pub record MemoryFit (l : List ℕ) : Type 0 where
@@ -183,14 +183,14 @@ machine-of : (s : State) → wellFormedOf s ≡ true → MachineFit (s .machine)
 unfolding wellFormedOf tiesFit timer0Fits
 machine-of s e =
     let m = s .machine in
-    let p = both-hold (both (cpuFits m) (stackFits (m .stack))) _ e in
-    let q = both-hold (cpuFits m) (stackFits (m .stack)) (p .0) in
-    let r = both-hold (both (bytesFit m) (pinsFit m)) _ (p .1) in
-    let u = both-hold (bytesFit m) (pinsFit m) (r .0) in
-    let v = both-hold (pendingFits m) _ (r .1) in
-    let w = both-hold (timer0Fits m (at (s .memory) 0x02)) _ (v .1) in
-    let x = both-hold (baseFits m (at (s .memory) 0x03)) _ (w .1) in
-    let y = both-hold (watchdogFits m (at (s .memory) 0x1E)) (optionsFit m (at (s .memory) 0x0C)) (x .1) in
+    let p = both-true (both (cpuFits m) (stackFits (m .stack))) _ e in
+    let q = both-true (cpuFits m) (stackFits (m .stack)) (p .0) in
+    let r = both-true (both (bytesFit m) (pinsFit m)) _ (p .1) in
+    let u = both-true (bytesFit m) (pinsFit m) (r .0) in
+    let v = both-true (pendingFits m) _ (r .1) in
+    let w = both-true (timer0Fits m (at (s .memory) 0x02)) _ (v .1) in
+    let x = both-true (baseFits m (at (s .memory) 0x03)) _ (w .1) in
+    let y = both-true (watchdogFits m (at (s .memory) 0x1E)) (optionsFit m (at (s .memory) 0x0C)) (x .1) in
     let cpu = cpu-of m (q .0) in
     let stack = stack-of (m .stack) (q .1) in
     let bytes = bytes-of m (u .0) in

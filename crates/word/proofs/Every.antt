@@ -8,7 +8,7 @@ use lib.Dec.{ltb}
 use borrow.Author.Tests.{ltb-true, ltb-false}
 use Rattle.lent.specs.Lent.{both}
 use Rattle.lent.proofs.Laws.{test}
-use Rattle.word.proofs.Laws.{both-true}
+use Rattle.lent.proofs.Laws.{both-true}
 
 unfoldable pub every : (ℕ → Bool) → ℕ → ℕ → Bool
 every f zero b = f b

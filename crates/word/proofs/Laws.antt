@@ -1,11 +1,11 @@
 -- Laws that the proofs of this crate cite: a definition by cases at an equal instruction, and fields that a test keeps in range.
-use mathlib.Core.Path.{_≡_, _∙_, refl, ap, sym}
-use mathlib.Core.Bool.{Bool, true, false}
+use mathlib.Core.Path.{_≡_, _∙_, ap, sym}
+use mathlib.Core.Bool.{Bool, true}
 use Prim.Native.Nat.{ℕ, _+_, _*_, _<_}
-use native.Mathlib.Omega.{arith}
 use lib.Dec.{ltb}
 use borrow.Author.Tests.{ltb-true, lt-ltb}
 use Rattle.lent.specs.Lent.{both}
+use Rattle.lent.proofs.Laws.{both-true}
 use Rattle.word.specs.declared.Operation.{Operation}
 use Rattle.word.specs.declared.ImmediateOperation.{ImmediateOperation}
 use Rattle.word.specs.declared.Condition.{Condition}
@@ -32,11 +32,6 @@ immediate-word p q = rw (p, q)
 
 pub branch-word : {i : Instruction} {c : Condition} {t k : ℕ} → i ≡ Branch c t → k ≡ conditionCode c → k * 2048 + t ≡ wordOf i
 branch-word p q = rw (p, q)
-
--- two tests that both hold
-pub both-true : (a b : Bool) → both a b ≡ true → (a ≡ true) × (b ≡ true)
-both-true true b e = (refl, e)
-both-true false b e = let z : _≡_ {A = ℕ} 0 1 = cc in absurd (omega arith)
 
 pub both-below : (x m y n : ℕ) → both (ltb x m) (ltb y n) ≡ true → (x < m) × (y < n)
 both-below x m y n e =

@@ -8,7 +8,7 @@ use lib.Dec.{eqb}
 use lib.Seq.{getD-set-same, getD-set-other}
 use borrow.Author.Tests.{eqb-true, eqb-false}
 use Rattle.lent.specs.Lent.{both, at}
-use Rattle.lent.proofs.Laws.{test}
+use Rattle.lent.proofs.Laws.{both-true, test}
 use Rattle.word.specs.declared.Decoded.{Decoded}
 use Rattle.word.specs.declared.Instruction.{Instruction}
 use Rattle.word.specs.Word.{decodeOf}
@@ -16,7 +16,6 @@ use Rattle.word.proofs.RoundTrip.{encode-decode}
 use Rattle.sh_state.specs.Map.{askableOf}
 use Rattle.sh_state.specs.Record.{setPc, setAc, setCy, freshOf}
 use Rattle.sh_state.specs.State.{State, state}
-use Rattle.sh_state.proofs.Below.{both-hold}
 use Rattle.sh_state.proofs.Fits.{Fit, fit-of, cell-small}
 use Rattle.sh_cells.specs.Cells.{targetOf, valueOf}
 use Rattle.writers.specs.Statement.{Changes}
@@ -76,7 +75,7 @@ complete p a c h k = by-word (decodeOf (at p a)) refl
     by-form : (i : Instruction) → decodeOf (at p a) ≡ Decoded.Listed i → Form i c → writesIn i c ≡ true → Changes p a c
     by-form i e (Leaves same fails) t = never (sym fails ∙ t)
     by-form i e (Writes x value may w after passes) t =
-        let b = both-hold (names x c) may (sym passes ∙ t) in
+        let b = both-true (names x c) may (sym passes ∙ t) in
         let m = arrived a (w .ac) (w .cy) in
         let s : State = state m (pointing c (w .cell)) in
         let well = arrived-well a (w .ac) (w .cy) c (w .cell) k (w .small .1) (w .small .2) (w .small .0) h in
