@@ -1,11 +1,11 @@
 // One thin entry that advances a caller's machine record where it stands.
-use calls::answer::Outcome;
-use calls::step;
+use answer::Outcome;
+use call_step::step;
 use sh_state::machine::Machine;
 ghost use mathlib.Core.Path.{_≡_};
 ghost use Rattle.sh_state.specs.State.{state};
-ghost use Rattle.calls.specs.Answer.{answered};
-ghost use Rattle.calls.specs.Step.{stepOf};
+ghost use Rattle.answer.specs.Answer.{answered};
+ghost use Rattle.call_step.specs.Step.{stepOf};
 
 // One event, as the call step: the record and the memory are left as step leaves them.
 pub fn advance(m: &mut Machine, program: &[u16], memory: &mut [u8], e: u8) -> Outcome

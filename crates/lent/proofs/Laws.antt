@@ -74,6 +74,13 @@ both-true false b e = absurd (apart e)
     apart e = let z : _≡_ {A = ℕ} 0 1 = cc in omega arith
 
 -- what holds of both choices holds of the choice
+pub by-test : {A : Type 0} (P : A → Type 0) (b : Bool) (x y : A) → (b ≡ true → P x) → (b ≡ false → P y) → P (pick b x y)
+by-test P true x y f g = f refl
+by-test P false x y f g = g refl
+
+pub by-choice : {A : Type 0} (P : A → Type 0) (b : Bool) (x y : A) → P x → P y → P (pick b x y)
+by-choice P b x y f g = by-test P b x y (λ _. f) (λ _. g)
+
 pub by-lt : {A : Type 0} (P : A → Type 0) (m n : ℕ) (x y : A) → (m < n → P x) → (n ≤ m → P y) → P (pick (ltb m n) x y)
 by-lt P m n x y f g = go (ltb m n) refl
   where

@@ -30,6 +30,10 @@ pairSetOf l i v = set (set l i (v / 256 % 256)) (i + 1) (v % 256)
 unfoldable pub pastedOf : List ℕ → ℕ → List ℕ → List ℕ
 pastedOf l i from = pick (ltb (length l) (i + length from)) l (take i l ++ from ++ drop (i + length from) l)
 
+-- a list at the front of a room, and then what stood beyond it ("Bytes beyond what is written stay")
+unfoldable pub over : List ℕ → List ℕ → List ℕ
+over l o = l ++ drop (length l) o
+
 -- each element by its place, from place i on
 unfoldable pub mapFrom : (ℕ → ℕ → ℕ) → List ℕ → ℕ → List ℕ
 mapFrom f [] i = []

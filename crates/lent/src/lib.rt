@@ -3,6 +3,12 @@ ghost use mathlib.Core.Path.{_≡_};
 ghost use lib.ListN.{length, replicate, set};
 ghost use Rattle.lent.specs.Lent.{at, both, pairAtOf, pairSetOf, pastedOf};
 
+// The place of what was looked for, where there is one.
+pub enum Found {
+    At(usize),
+    Nothing,
+}
+
 // Whether both hold.
 pub fn both(a: bool, b: bool) -> bool
     ensures { λ r. ⌜ r ≡ both a b ⌝ }

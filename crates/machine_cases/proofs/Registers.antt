@@ -6,11 +6,12 @@ use lib.Bits.{bitAnd, bitOr}
 use lib.Dec.{T, eqb}
 use lib.ListN.{replicate, set}
 use Rattle.lent.specs.Lent.{pick, at, both}
-use Rattle.sh_state.specs.Map.{kindOf, heldOf, heldIn, writtenOf, writtenIn, registerBits, registerWritten}
-use Rattle.sh_state.specs.Periods.{periodOf, periods}
+use Rattle.sh_map.specs.Map.{kindOf, heldOf, heldIn, writtenOf, writtenIn, registerBits, registerWritten}
+use Rattle.sh_periods.specs.Periods.{periodOf, periods}
 use Rattle.sh_state.specs.Record.{freshOf, setPinA, setPinB, setPinC, setPinD, setCounter, setLoad, setPrescaler, setBasePrescaler, setBaseCounter, setWatchdog, setPending}
 use Rattle.sh_state.specs.State.{State, state}
-use Rattle.sh_cells.specs.Cells.{targetOf, pointedOf, valueOf, portOf, plainIn, plainOf, writeOf, noticedOf, keptOf, baseWrittenOf, loadLowOf, loadHighOf, askedOf, restartedOf}
+use Rattle.sh_cells.specs.Cells.{targetOf, pointedOf, valueOf, portOf, plainIn, plainOf, restartedOf}
+use Rattle.sh_writes.specs.Writes.{writeOf, noticedOf, keptOf, baseWrittenOf, loadLowOf, loadHighOf, askedOf}
 
 -- a row: the address, the bits that the cell can hold (3.2; - is none), what it holds before, and what it holds and reads as
 -- after 15 is written and then after 0

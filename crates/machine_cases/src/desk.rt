@@ -2,15 +2,44 @@
 use crate::drawn;
 use crate::reader::Line;
 use crate::show;
-use calls::answer::Answer;
-use calls::answer::Outcome;
-use calls::fresh;
-use calls::run;
-use calls::step;
+use answer::Answer;
+use answer::Outcome;
+use call_step::step;
 use refusal::Refusal;
 use sh_state::machine::Machine;
+use wire::record;
 
 const NOP: u16 = 0xFFFF;
+
+// Where each field of a record stands among its 37 bytes, in 01's order with each stack entry and each port's pins as one; then the end.
+const PLACES: [u8; 26] = [
+    0,
+    2,
+    3,
+    4,
+    5,
+    7,
+    9,
+    11,
+    13,
+    15,
+    17,
+    19,
+    21,
+    23,
+    24,
+    25,
+    26,
+    27,
+    29,
+    30,
+    31,
+    32,
+    33,
+    34,
+    35,
+    37,
+];
 
 pub struct Case {
     machine: Machine,
@@ -101,7 +130,7 @@ fn fresh_case(options: u32, program: &mut [u16], memory: &mut [u8]) -> Case {
 }
 
 fn fresh_on(options: u32, memory: &mut [u8]) -> Case {
-    let a = fresh::fresh(options, memory);
+    let a = call_fresh::fresh(options, memory);
     let o = a.outcome;
     show::text(b"fresh");
     show::outcome(o);
@@ -135,91 +164,24 @@ fn with_field(case: Case, field: u32, value: u16) -> Case {
     }
 }
 
-// The record with its field of a number changed, counted in 01's order with each stack entry and each port's pins as one.
+// The record with its field of a number changed.
 fn changed(m: Machine, field: u32, value: u16) -> Machine {
-    let byte = (value % 256) as u8;
-    let mut n = m;
-    if field == 0 {
-        n.pc = value;
-        return n;
-    }
-    if field == 1 {
-        n.ac = byte;
-        return n;
-    }
-    if field == 2 {
-        n.cy = byte;
-        return n;
-    }
-    if field == 3 {
-        n.mode = byte;
-        return n;
-    }
-    if field < 12 {
-        let i = (field - 4) as usize;
-        let mut s = m.stack;
-        s[i] = value;
-        n.stack = s;
-        return n;
-    }
-    if field == 12 {
-        n.prescaler = value;
-        return n;
-    }
-    if field == 13 {
-        n.counter = byte;
-        return n;
-    }
-    if field == 14 {
-        n.load = byte;
-        return n;
-    }
-    changed_further(m, field, value, byte)
+    let mut bytes = record::bytes_of(m);
+    put_field(&mut bytes, field as usize, value);
+    record::record_of(&bytes)
 }
 
-fn changed_further(m: Machine, field: u32, value: u16, byte: u8) -> Machine {
-    let mut n = m;
-    if field == 15 {
-        n.baseprescaler = byte;
-        return n;
+fn put_field(bytes: &mut [u8], field: usize, value: u16) {
+    if 24 < field {
+        return;
     }
-    if field == 16 {
-        n.basecounter = byte;
-        return n;
+    let at = (PLACES[field] % 64) as usize;
+    let next = (PLACES[field + 1] % 64) as usize;
+    if at + 2 == next {
+        lent::pair_set(bytes, at, value);
+        return;
     }
-    if field == 17 {
-        n.watchdog = value;
-        return n;
-    }
-    if field == 18 {
-        n.pina = byte;
-        return n;
-    }
-    if field == 19 {
-        n.pinb = byte;
-        return n;
-    }
-    if field == 20 {
-        n.pinc = byte;
-        return n;
-    }
-    if field == 21 {
-        n.pind = byte;
-        return n;
-    }
-    if field == 22 {
-        n.options = byte;
-        return n;
-    }
-    if field == 23 {
-        n.pending = byte;
-        return n;
-    }
-    if field == 24 {
-        n.address = value;
-        return n;
-    }
-    n
+    lent::poke(bytes, at, (value % 256) as u8);
 }
 
 fn with_events(case: Case, script: &mut [u8], count: u32, event: u8) -> Case {
@@ -312,7 +274,7 @@ fn gone_events(
 
 // The script by one call of run.
 fn ran(program: &[u16], m: Machine, memory: &mut [u8], script: &[u8], stop: u32) -> Machine {
-    let a = run::run(program, m, memory, script, stop);
+    let a = call_run::run(program, m, memory, script, stop);
     let why = a.reason;
     show::text(b"run");
     show::reason(why);

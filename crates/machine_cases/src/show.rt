@@ -1,6 +1,6 @@
 // What a call answered and what it left, written to standard output.
-use calls::answer::Outcome;
-use calls::answer::Reason;
+use answer::Outcome;
+use call_run::Reason;
 use libc::STDOUT_FILENO;
 use refusal::Refusal;
 use sh_state::machine::Machine;

@@ -1,9 +1,9 @@
 // A small book that is written out here by hand, read whole and damaged; the same bodies written as a book; pictures and levels. A line for each case: the answer, or the refusal's number and value.
 use book::Reading;
-use book::Written;
+use book_write::Written;
+use level::Levelled;
 use libc::STDOUT_FILENO;
-use panel::level::Levelled;
-use panel::picture::Drawn;
+use picture::Drawn;
 use refusal::Refusal;
 use sh_state::machine::Machine;
 ghost use Prim.Native.Nat.{_≤_};
@@ -223,7 +223,7 @@ fn writes() {
     let file = by_hand();
     let mut room = [7; 8221];
     text(b"write: ");
-    written(book::write(
+    written(book_write::write(
         book::part(&file, 16, 8192),
         book::part(&file, 8208, 6),
         book::part(&file, 8214, 5),
@@ -239,7 +239,7 @@ fn writes() {
 fn refused_write(name: &[u8], program: &[u8], wiring: &[u8], level: &[u8]) {
     text(name);
     let mut room = [7; 8218];
-    written(book::write(program, wiring, level, &mut room));
+    written(book_write::write(program, wiring, level, &mut room));
     text(b"the room as before: ");
     yes(check::same(&room, &[7; 8218]));
 }
@@ -315,7 +315,7 @@ fn drawn(d: Drawn, room: &[u8]) {
 fn picture_of(mode: u8, cells: &[u8], wiring: &[u8]) {
     let m = in_mode(Machine::fresh(0), mode);
     let mut room = [7; 3];
-    let d = panel::picture::picture(m, cells, wiring, &mut room);
+    let d = picture::picture(m, cells, wiring, &mut room);
     drawn(d, &room);
 }
 
@@ -382,7 +382,7 @@ fn level(high: u8, low: u8, ground: u8) {
     lent::poke(&mut cells, 0x020, high);
     lent::poke(&mut cells, 0x021, low);
     let body = [0x00, 0x20, 0x00, 0x21, ground];
-    levelled(panel::level::level(&cells, &body));
+    levelled(level::level(&cells, &body));
 }
 
 fn levels() {
@@ -399,7 +399,7 @@ fn levels() {
 
 fn refused_level(name: &[u8], cells: &[u8], body: &[u8]) {
     text(name);
-    levelled(panel::level::level(cells, body));
+    levelled(level::level(cells, body));
 }
 
 fn refused_levels() {

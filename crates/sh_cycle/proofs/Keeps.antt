@@ -1,38 +1,27 @@
--- A cycle, and each event, keeps a well-formed machine well formed, whatever the program and whatever the byte.
+-- A cycle keeps a well-formed machine well formed, whatever the program.
 use mathlib.Core.Path.{_≡_, refl}
 use mathlib.Core.Bool.{Bool, true, false}
 use mathlib.Core.List.{List}
-use Prim.Native.Nat.{ℕ, _/_, _%_, _<_}
+use Prim.Native.Nat.{ℕ}
 use native.Mathlib.Omega.{arith}
-use lib.Seq.{getD-set-other}
 use Rattle.lent.specs.Lent.{pick, at}
-use Rattle.lent.proofs.Laws.{by-eq}
+use Rattle.lent.proofs.Laws.{by-choice, by-eq}
 use Rattle.word.specs.declared.Decoded.{Decoded}
 use Rattle.word.specs.declared.Decoded.the-variants.{Listed, Refused}
 use Rattle.word.specs.Word.{decodeOf}
 use Rattle.word.proofs.RoundTrip.{encode-decode}
-use Rattle.sh_state.specs.declared.judge.Judged.the-variants.{Fine}
 use Rattle.sh_state.specs.declared.machine.Machine.{Machine}
-use Rattle.sh_state.specs.Judge.{stateJudged}
 use Rattle.sh_state.specs.State.{State, state}
-use Rattle.sh_state.proofs.Fits.{Fit, fit-of, judged-of}
-use Rattle.sh_parts.specs.declared.request.Moved.{Moved}
-use Rattle.sh_parts.specs.declared.reset.Column.the-variants.{Pin, Watchdog}
-use Rattle.sh_parts.specs.Request.{requestedOf}
-use Rattle.sh_parts.specs.Interrupt.{dueOf, awakeOf}
-use Rattle.sh_parts.specs.Watchdog.{expiresOf}
-use Rattle.sh_parts.proofs.Kept.{MovedFit, requested-keeps, clocked-keeps, fallen-keeps, base-pulsed-keeps, counted-down-keeps, interrupted-keeps, reset-keeps, pin-a-keeps, pin-b-keeps, pin-c-keeps, pin-d-keeps, mode-keeps, cleared-keeps, landed-keeps}
+use Rattle.sh_rules.proofs.Fits.{Fit}
+use Rattle.sh_timers.specs.declared.request.Moved.{Moved}
+use Rattle.sh_interrupts.specs.Interrupt.{dueOf, awakeOf}
+use Rattle.sh_timers.proofs.Kept.{MovedFit, requested-keeps, clocked-keeps}
+use Rattle.sh_parts.proofs.Kept.{mode-keeps, cleared-keeps, landed-keeps}
+use Rattle.sh_interrupts.proofs.Kept.{interrupted-keeps}
 use Rattle.sh_execute.proofs.Kept.{execute-keeps}
 use Rattle.sh_cycle.specs.Cycle.{Happened, movedOf, readTakenOf, wokenOf, wordInOf, landedOf, clockOf, finishedOf, executedOf, instructedOf, interruptCycleOf, awakeCycleOf, asleepCycleOf, cycleDueOf, cycleOf}
-use Rattle.sh_cycle.specs.Ports.{externalOf, fallingOf, portAOf, portRequestOf, portEdgesOf, portBOf, portCOf}
-use Rattle.sh_cycle.specs.Event.{basePulseOf, watchdogPulseOf, pinsOf, otherOf, eventOf}
 
--- what holds of both choices holds of the choice
-pub by-test : {A : Type 0} (P : A → Type 0) (b : Bool) (x y : A) → P x → P y → P (pick b x y)
-by-test P true x y f g = f
-by-test P false x y f g = g
-
-moved-keeps : {l : List ℕ} {r : Moved} → MovedFit l r → Fit (movedOf l r)
+pub moved-keeps : {l : List ℕ} {r : Moved} → MovedFit l r → Fit (movedOf l r)
 moved-keeps {l} {r} f = requested-keeps (f .fit) (r .requests) (f .requests)
 
 module _ {s : State} (f : Fit s) where
@@ -73,69 +62,4 @@ module _ (p : List ℕ) {s : State} (f : Fit s) where
 
   pub cycle-keeps : Fit (cycleOf p s .after)
   unfolding cycleOf cycleDueOf
-  cycle-keeps = by-test (λ (h : Happened). Fit (h .after)) (awakeOf (s .machine .mode) (dueOf (s .memory))) _ _ (awake-keeps (dueOf (s .memory))) asleep-keeps
-
--- the bits that pins request
-external-small : (s : State) (pins : ℕ) → externalOf s pins < 16
-unfolding externalOf
-external-small s pins = omega arith
-
-port-request-small : (edges : ℕ) → portRequestOf edges < 16
-unfolding portRequestOf
-port-request-small edges = by-eq (λ v. v < 16) edges 0 _ _ (λ e. omega arith) (λ n. omega arith)
-
-port-edges-small : (l : List ℕ) (old pins control : ℕ) → portEdgesOf l old pins control < 16
-unfolding portEdgesOf
-port-edges-small l old pins control = port-request-small _
-
--- a request leaves Timer0's mode
-mode-stays : (l : List ℕ) (bits : ℕ) → at (requestedOf l bits) 0x02 ≡ at l 0x02
-unfolding requestedOf
-mode-stays l bits = getD-set-other l 0x01 0x02 _ 0 (omega arith)
-
-module _ {s : State} (f : Fit s) where
-  base-pulse-keeps : Fit (basePulseOf s)
-  unfolding basePulseOf
-  base-pulse-keeps = moved-keeps (base-pulsed-keeps f)
-
-  watchdog-pulse-keeps : Fit (watchdogPulseOf s)
-  unfolding watchdogPulseOf
-  watchdog-pulse-keeps = by-test Fit (expiresOf (s .machine)) _ _ (reset-keeps Watchdog f) (counted-down-keeps f)
-
-  port-a-keeps : (pins : ℕ) → pins < 16 → Fit (portAOf s pins)
-  unfolding portAOf
-  port-a-keeps pins h =
-      let l = s .memory in
-      let g = requested-keeps (pin-a-keeps f pins h) (externalOf s pins) (external-small s pins) in
-      moved-keeps (rw (mode-stays l (externalOf s pins)) at (fallen-keeps g (fallingOf s pins)))
-
-  port-b-keeps : (pins : ℕ) → pins < 16 → Fit (portBOf s pins)
-  unfolding portBOf
-  port-b-keeps pins h = requested-keeps (pin-b-keeps f pins h) _ (port-edges-small _ _ _ _)
-
-  port-c-keeps : (pins : ℕ) → pins < 16 → Fit (portCOf s pins)
-  unfolding portCOf
-  port-c-keeps pins h = requested-keeps (pin-c-keeps f pins h) _ (port-edges-small _ _ _ _)
-
-  pins-keep : (e : ℕ) → Fit (pinsOf s e)
-  unfolding pinsOf
-  pins-keep e =
-      let h : e % 16 < 16 = omega arith in
-      by-eq Fit (e / 16) 1 _ _ (λ t. port-a-keeps (e % 16) h)
-      (λ t. by-eq Fit (e / 16) 2 _ _ (λ t. port-b-keeps (e % 16) h)
-      (λ t. by-eq Fit (e / 16) 3 _ _ (λ t. port-c-keeps (e % 16) h)
-      (λ t. by-eq Fit (e / 16) 4 _ _ (λ t. pin-d-keeps f (e % 16) h) (λ t. f))))
-
-  other-keeps : (e : ℕ) → Fit (otherOf s e)
-  unfolding otherOf
-  other-keeps e =
-      by-eq Fit e 0x01 _ _ (λ t. base-pulse-keeps)
-      (λ t. by-eq Fit e 0x02 _ _ (λ t. watchdog-pulse-keeps) (λ t. by-eq Fit e 0x03 _ _ (λ t. reset-keeps Pin f) (λ t. pins-keep e)))
-
-pub event-keeps : (p : List ℕ) (s : State) (e : ℕ) → Fit s → Fit (eventOf p s e .after)
-unfolding eventOf
-event-keeps p s e f = by-eq (λ (h : Happened). Fit (h .after)) e 0x00 _ _ (λ t. cycle-keeps p f) (λ t. other-keeps f e)
-
--- the same in the words by which a call turns a machine down
-pub event-judged : (p : List ℕ) (s : State) (e : ℕ) → stateJudged s ≡ Fine → stateJudged (eventOf p s e .after) ≡ Fine
-event-judged p s e h = judged-of (event-keeps p s e (fit-of s h))
+  cycle-keeps = by-choice (λ (h : Happened). Fit (h .after)) (awakeOf (s .machine .mode) (dueOf (s .memory))) _ _ (awake-keeps (dueOf (s .memory))) asleep-keeps

@@ -12,10 +12,10 @@ use Rattle.word.specs.Word.{decodeOf}
 use Rattle.sh_state.specs.declared.machine.Machine.{Machine}
 use Rattle.sh_state.specs.Record.{setMode, setPending}
 use Rattle.sh_state.specs.State.{State, state}
-use Rattle.sh_parts.specs.declared.request.Moved.{Moved}
-use Rattle.sh_parts.specs.Request.{requestedOf}
-use Rattle.sh_parts.specs.Timer0.{clockedOf}
-use Rattle.sh_parts.specs.Interrupt.{dueOf, awakeOf, interruptedOf}
+use Rattle.sh_timers.specs.declared.request.Moved.{Moved}
+use Rattle.sh_timers.specs.Request.{requestedOf}
+use Rattle.sh_timers.specs.Timer0.{clockedOf}
+use Rattle.sh_interrupts.specs.Interrupt.{dueOf, awakeOf, interruptedOf}
 use Rattle.sh_execute.specs.Execute.{executeOf}
 
 -- an event's outcome: stuck before an unlisted word with nothing changed, or done

@@ -1,9 +1,8 @@
 // One cycle: wake, interrupt or instruction, pending read, Timer0's clock.
-use sh_parts::interrupt;
-use sh_parts::request;
-use sh_parts::timer0;
+use sh_map::map;
 use sh_state::machine::Machine;
-use sh_state::map;
+use sh_timers::request;
+use sh_timers::timer0;
 use word::Decoded;
 use word::Instruction;
 ghost use mathlib.Core.Path.{_≡_};
@@ -136,7 +135,7 @@ ghost use mathlib.Core.Bool.{false};
 fn interrupt_cycle(program: &[u16], m: Machine, memory: &mut [u8], due: u8) -> Outcome
     ensures { λ r. ⌜ happened (r .stuck) (state (r .machine) (now (memory .exit))) ≡ happened false (interruptCycleOf (now (program .entry)) (state m (now (memory .entry))) due) ⌝ }
 {
-    let n = interrupt::interrupted(woken(m), memory, due);
+    let n = sh_interrupts::interrupted(woken(m), memory, due);
     Outcome {
         stuck: false,
         machine: finished(program, m, n, memory),
@@ -179,7 +178,7 @@ fn sleep(program: &[u16], m: Machine, memory: &mut [u8]) -> Outcome
 fn cycle_due(program: &[u16], m: Machine, memory: &mut [u8], due: u8) -> Outcome
     ensures { λ r. ⌜ happened (r .stuck) (state (r .machine) (now (memory .exit))) ≡ cycleDueOf (now (program .entry)) (state m (now (memory .entry))) due ⌝ }
 {
-    if interrupt::awake(m.mode, due) {
+    if sh_interrupts::awake(m.mode, due) {
         return awake_cycle(program, m, memory, due);
     }
     sleep(program, m, memory)
@@ -189,6 +188,6 @@ fn cycle_due(program: &[u16], m: Machine, memory: &mut [u8], due: u8) -> Outcome
 pub fn cycle(program: &[u16], m: Machine, memory: &mut [u8]) -> Outcome
     ensures { λ r. ⌜ happened (r .stuck) (state (r .machine) (now (memory .exit))) ≡ cycleOf (now (program .entry)) (state m (now (memory .entry))) ⌝ }
 {
-    let due = interrupt::due(memory);
+    let due = sh_interrupts::due(memory);
     cycle_due(program, m, memory, due)
 }

@@ -1,4 +1,2 @@
-// Every event on the machine: the cycle, the pulses, the reset pin and the ports' pins.
+// The cycle of the machine.
 pub mod cycle;
-pub mod event;
-mod ports;

@@ -16,12 +16,13 @@ use Rattle.alu.specs.declared.Sum.{Sum}
 use Rattle.alu.specs.Alu.{Ranged, calculatedOf}
 use Rattle.alu.proofs.Ranges.{calculated-range, loaded-range, decimal-added-range, decimal-subtracted-range, shifted-right-range}
 use Rattle.sh_state.specs.declared.machine.Machine.{Machine}
-use Rattle.sh_state.specs.Map.{kindOf, registerBits, heldIn, heldOf}
+use Rattle.sh_map.specs.Map.{kindOf, registerBits, heldIn, heldOf}
 use Rattle.sh_state.specs.State.{State, state}
-use Rattle.sh_state.proofs.Within.{nibble-within}
-use Rattle.sh_state.proofs.Fits.{Fit, MachineFit, pc-fits, ac-fits, cy-fits, mode-fits, push-fits, pop-fits, entry-small, store-keeps}
+use Rattle.sh_map.proofs.Within.{nibble-within}
+use Rattle.sh_rules.proofs.Fits.{Fit, MachineFit, pc-fits, ac-fits, cy-fits, mode-fits, push-fits, pop-fits, entry-small, store-keeps}
 use Rattle.sh_cells.specs.Cells.{readOf, valueOf}
-use Rattle.sh_cells.proofs.Keeps.{value-small, read-keeps, write-keeps}
+use Rattle.sh_cells.proofs.Keeps.{value-small, read-keeps}
+use Rattle.sh_writes.proofs.Keeps.{write-keeps}
 use Rattle.sh_execute.specs.Execute.{nextOf, withinOf, onwardOf, tookOf, putOf, accumulatedOf, storedOf, loadOf, accumulatorFormOf, memoryFormOf, ldaOf, staOf, ldiOf, withImmediateOf, storedImmediateOf, immediateFormOf, daaOf, dasOf, branchIfOf, branchOf, callOf, rtnwOf, rtniOf, restOf, shrOf, tjmpOf, executeOf}
 
 next-small : (pc : ℕ) → pc < 4096 → nextOf pc < 4096

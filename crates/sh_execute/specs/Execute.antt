@@ -17,7 +17,8 @@ use Rattle.alu.specs.Alu.{calculatedOf, loadedOf, decimalAddedOf, decimalSubtra
 use Rattle.sh_state.specs.declared.machine.Machine.{Machine}
 use Rattle.sh_state.specs.Record.{setPc, setAc, setCy, setMode, entryOf, pushOf, popOf, newestOf}
 use Rattle.sh_state.specs.State.{State, state}
-use Rattle.sh_cells.specs.Cells.{targetOf, readOf, writeOf}
+use Rattle.sh_cells.specs.Cells.{targetOf, readOf}
+use Rattle.sh_writes.specs.Writes.{writeOf}
 
 -- PC+1 wraps within 11 bits and keeps PC11
 unfoldable pub nextOf : ℕ → ℕ

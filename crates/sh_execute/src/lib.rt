@@ -1,8 +1,8 @@
 // One instruction of the SH67P54 on its machine.
 use alu::Sum;
+use sh_map::map;
 use sh_state::machine;
 use sh_state::machine::Machine;
-use sh_state::map;
 use word::Condition;
 use word::ImmediateOperation;
 use word::Instruction;
@@ -62,7 +62,7 @@ fn took(m: Machine, r: Sum) -> Machine
 fn put(m: Machine, memory: &mut [u8], a: u16, r: Sum) -> Machine
     ensures { λ n. ⌜ state n (now (memory .exit)) ≡ putOf (state m (now (memory .entry))) a r ⌝ }
 {
-    sh_cells::write(took(m, r), memory, a, r.value)
+    sh_writes::write(took(m, r), memory, a, r.value)
 }
 
 fn accumulated(m: Machine, memory: &[u8], o: Operation, operand: u8, a: u16) -> Machine

@@ -1,8 +1,3 @@
-// The parts of the chip that stand beside the processor, a file each, by value.
-pub mod base_timer;
+// Two short parts of the chip beside the processor, a file each, by value: the watchdog and the edges of pins.
 pub mod edges;
-pub mod interrupt;
-pub mod request;
-pub mod reset;
-pub mod timer0;
 pub mod watchdog;

@@ -8,7 +8,7 @@ use Rattle.lent.specs.Lent.{at}
 use Rattle.lent.proofs.Laws.{drop-more}
 use Rattle.sh_state.specs.State.{State}
 use Rattle.sh_cycle.specs.Cycle.{Happened}
-use Rattle.sh_cycle.specs.Event.{eventOf}
+use Rattle.sh_events.specs.Event.{eventOf}
 use Rattle.sh_run.specs.declared.Stop.the-variants as stop
 use Rattle.sh_run.specs.Run.{ran, reachedOf, runOf}
 

@@ -6,7 +6,7 @@ use Prim.Native.Nat.{ℕ, _+_}
 use Rattle.lent.specs.Lent.{pick}
 use Rattle.lent.proofs.Laws.{test}
 use Rattle.sh_state.specs.State.{State}
-use Rattle.sh_cycle.specs.Event.{eventOf}
+use Rattle.sh_events.specs.Event.{eventOf}
 use Rattle.sh_run.specs.declared.Stop.{Stop}
 use Rattle.sh_run.specs.declared.Stop.the-variants as stop
 use Rattle.sh_run.specs.Run.{Ran, ran, reachedOf, runOf}

@@ -7,7 +7,7 @@ use Rattle.lent.specs.Lent.{pick}
 use Rattle.sh_state.specs.declared.machine.Machine.{Machine}
 use Rattle.sh_state.specs.State.{State}
 use Rattle.sh_cycle.specs.Cycle.{Happened}
-use Rattle.sh_cycle.specs.Event.{eventOf}
+use Rattle.sh_events.specs.Event.{eventOf}
 use Rattle.sh_run.specs.declared.Stop.{Stop}
 use Rattle.sh_run.specs.declared.Stop.the-variants as stop
 

@@ -1,5 +1,5 @@
 // A run: the events of a script, one after the other.
-use sh_cycle::event;
+use sh_events::event;
 use sh_state::machine::Machine;
 ghost use mathlib.Core.Path.{_≡_};
 ghost use Rattle.sh_state.specs.State.{state};

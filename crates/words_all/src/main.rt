@@ -7,14 +7,6 @@ use word::Encoded;
 use word::ImmediateOperation;
 use word::Instruction;
 use word::Operation;
-ghost use mathlib.Core.Path.{_≡_};
-ghost use Rattle.words_all.specs.Digit.{digitOf};
-
-// A line in the making; what has no room is left out.
-struct Line {
-    bytes: [u8; 32],
-    length: usize,
-}
 
 fn main() {
     let mut word: u16 = 0;
@@ -27,199 +19,189 @@ fn main() {
 
 // Writes the line of a word.
 fn show(word: u16) {
-    let line = put(read(hexadecimal_4(empty(), word as u64), word), b'\n');
-    let bytes = line.bytes;
-    write_first(&bytes, line.length);
-}
-
-// Writes the first bytes of a line.
-fn write_first(bytes: &[u8], length: usize) {
-    if length <= bytes.len() {
-        io::write_all(STDOUT_FILENO, &bytes[..length]);
-    }
+    hexadecimal_4(word as u64);
+    read(word);
+    text(b"\n");
 }
 
 // What a word is read as.
-fn read(line: Line, word: u16) -> Line {
+fn read(word: u16) {
     match word::decode(word) {
-        Decoded::Listed(i) => back(named(put(line, b' '), i), i),
-        Decoded::Refused(why) => refused(text(line, b" unlisted"), why),
+        Decoded::Listed(i) => listed(i),
+        Decoded::Refused(why) => unlisted(why),
     }
 }
 
+fn listed(i: Instruction) {
+    text(b" ");
+    named(i);
+    back(i);
+}
+
+fn unlisted(why: Refusal) {
+    text(b" unlisted");
+    refused(why);
+}
+
 // What an instruction is written as.
-fn back(line: Line, i: Instruction) -> Line {
+fn back(i: Instruction) {
     match word::encode(i) {
-        Encoded::Word(word) => hexadecimal_4(put(line, b' '), word as u64),
-        Encoded::Refused(why) => refused(line, why),
+        Encoded::Word(word) => field_4(word as u64),
+        Encoded::Refused(why) => refused(why),
     }
 }
 
 // A refusal's number and value.
-fn refused(line: Line, why: Refusal) -> Line {
-    hexadecimal_4(
-        put(decimal(put(line, b' '), refusal::number(why)), b' '),
-        refusal::value(why),
-    )
+fn refused(why: Refusal) {
+    text(b" ");
+    io::print_decimal(STDOUT_FILENO, refusal::number(why) as u64);
+    field_4(refusal::value(why));
 }
 
 // The mnemonic and the fields of an instruction.
-fn named(line: Line, i: Instruction) -> Line {
+fn named(i: Instruction) {
     match i {
-        Instruction::Accumulator(operation, address) => address_field(
-            operation_name(line, operation),
-            address,
-        ),
-        Instruction::Memory(operation, address) => address_field(
-            put(operation_name(line, operation), b'M'),
-            address,
-        ),
-        Instruction::Lda(address) => address_field(text(line, b"LDA"), address),
-        Instruction::Sta(address) => address_field(text(line, b"STA"), address),
-        Instruction::Immediate(operation, x, immediate) => immediate_field(
-            x_field(immediate_name(line, operation), x),
-            immediate,
-        ),
-        Instruction::Ldi(x, immediate) => immediate_field(
-            x_field(text(line, b"LDI"), x),
-            immediate,
-        ),
-        Instruction::Branch(condition, target) => address_field(
-            condition_name(line, condition),
-            target,
-        ),
-        Instruction::Call(target) => address_field(text(line, b"CALL"), target),
-        Instruction::Daa(x) => x_field(text(line, b"DAA"), x),
-        Instruction::Das(x) => x_field(text(line, b"DAS"), x),
-        Instruction::Rtnw(high, low) => immediate_field(
-            immediate_field(text(line, b"RTNW"), high),
-            low,
-        ),
-        Instruction::Rtni => text(line, b"RTNI"),
-        Instruction::Halt => text(line, b"HALT"),
-        Instruction::Stop => text(line, b"STOP"),
-        Instruction::Jmp(target) => address_field(text(line, b"JMP"), target),
-        Instruction::Shr => text(line, b"SHR"),
-        Instruction::Tjmp => text(line, b"TJMP"),
-        Instruction::Nop => text(line, b"NOP"),
+        Instruction::Accumulator(operation, address) => accumulator(operation, address),
+        Instruction::Memory(operation, address) => memory(operation, address),
+        Instruction::Lda(address) => addressed(b"LDA", address),
+        Instruction::Sta(address) => addressed(b"STA", address),
+        Instruction::Immediate(operation, x, immediate) => with_immediate(operation, x, immediate),
+        Instruction::Ldi(x, immediate) => ldi(x, immediate),
+        Instruction::Branch(condition, target) => branch(condition, target),
+        Instruction::Call(target) => addressed(b"CALL", target),
+        Instruction::Daa(x) => at_x(b"DAA", x),
+        Instruction::Das(x) => at_x(b"DAS", x),
+        Instruction::Rtnw(high, low) => rtnw(high, low),
+        Instruction::Rtni => text(b"RTNI"),
+        Instruction::Halt => text(b"HALT"),
+        Instruction::Stop => text(b"STOP"),
+        Instruction::Jmp(target) => addressed(b"JMP", target),
+        Instruction::Shr => text(b"SHR"),
+        Instruction::Tjmp => text(b"TJMP"),
+        Instruction::Nop => text(b"NOP"),
     }
 }
 
-fn operation_name(line: Line, operation: Operation) -> Line {
+fn accumulator(operation: Operation, address: u16) {
+    operation_name(operation);
+    field_3(address);
+}
+
+fn memory(operation: Operation, address: u16) {
+    operation_name(operation);
+    text(b"M");
+    field_3(address);
+}
+
+fn with_immediate(operation: ImmediateOperation, x: u16, immediate: u8) {
+    immediate_name(operation);
+    field_2(x);
+    field_1(immediate);
+}
+
+fn ldi(x: u16, immediate: u8) {
+    text(b"LDI");
+    field_2(x);
+    field_1(immediate);
+}
+
+fn branch(condition: Condition, target: u16) {
+    condition_name(condition);
+    field_3(target);
+}
+
+fn rtnw(high: u8, low: u8) {
+    text(b"RTNW");
+    field_1(high);
+    field_1(low);
+}
+
+// A mnemonic and its address or target.
+fn addressed(name: &[u8], address: u16) {
+    text(name);
+    field_3(address);
+}
+
+// A mnemonic and its X.
+fn at_x(name: &[u8], x: u16) {
+    text(name);
+    field_2(x);
+}
+
+fn operation_name(operation: Operation) {
     match operation {
-        Operation::Adc => text(line, b"ADC"),
-        Operation::Add => text(line, b"ADD"),
-        Operation::Sbc => text(line, b"SBC"),
-        Operation::Sub => text(line, b"SUB"),
-        Operation::Eor => text(line, b"EOR"),
-        Operation::Or => text(line, b"OR"),
-        Operation::And => text(line, b"AND"),
+        Operation::Adc => text(b"ADC"),
+        Operation::Add => text(b"ADD"),
+        Operation::Sbc => text(b"SBC"),
+        Operation::Sub => text(b"SUB"),
+        Operation::Eor => text(b"EOR"),
+        Operation::Or => text(b"OR"),
+        Operation::And => text(b"AND"),
     }
 }
 
-fn immediate_name(line: Line, operation: ImmediateOperation) -> Line {
+fn immediate_name(operation: ImmediateOperation) {
     match operation {
-        ImmediateOperation::Adi => text(line, b"ADI"),
-        ImmediateOperation::Adim => text(line, b"ADIM"),
-        ImmediateOperation::Sbi => text(line, b"SBI"),
-        ImmediateOperation::Sbim => text(line, b"SBIM"),
-        ImmediateOperation::Eorim => text(line, b"EORIM"),
-        ImmediateOperation::Orim => text(line, b"ORIM"),
-        ImmediateOperation::Andim => text(line, b"ANDIM"),
+        ImmediateOperation::Adi => text(b"ADI"),
+        ImmediateOperation::Adim => text(b"ADIM"),
+        ImmediateOperation::Sbi => text(b"SBI"),
+        ImmediateOperation::Sbim => text(b"SBIM"),
+        ImmediateOperation::Eorim => text(b"EORIM"),
+        ImmediateOperation::Orim => text(b"ORIM"),
+        ImmediateOperation::Andim => text(b"ANDIM"),
     }
 }
 
-fn condition_name(line: Line, condition: Condition) -> Line {
+fn condition_name(condition: Condition) {
     match condition {
-        Condition::Bnz => text(line, b"BNZ"),
-        Condition::Bnc => text(line, b"BNC"),
-        Condition::Baz => text(line, b"BAZ"),
-        Condition::Bc => text(line, b"BC"),
-        Condition::Ba0 => text(line, b"BA0"),
-        Condition::Ba1 => text(line, b"BA1"),
-        Condition::Ba2 => text(line, b"BA2"),
-        Condition::Ba3 => text(line, b"BA3"),
+        Condition::Bnz => text(b"BNZ"),
+        Condition::Bnc => text(b"BNC"),
+        Condition::Baz => text(b"BAZ"),
+        Condition::Bc => text(b"BC"),
+        Condition::Ba0 => text(b"BA0"),
+        Condition::Ba1 => text(b"BA1"),
+        Condition::Ba2 => text(b"BA2"),
+        Condition::Ba3 => text(b"BA3"),
     }
+}
+
+// A blank and a word: four digits.
+fn field_4(word: u64) {
+    text(b" ");
+    hexadecimal_4(word);
 }
 
 // A blank and an address or a target: three digits.
-fn address_field(line: Line, address: u16) -> Line {
-    hexadecimal_3(put(line, b' '), address as u64)
+fn field_3(address: u16) {
+    text(
+        &[
+            b' ',
+            digit(address as u64 / 256),
+            digit(address as u64 / 16),
+            digit(address as u64),
+        ],
+    );
 }
 
 // A blank and X: two digits.
-fn x_field(line: Line, x: u16) -> Line {
-    hexadecimal_2(put(line, b' '), x as u64)
+fn field_2(x: u16) {
+    text(&[b' ', digit(x as u64 / 16), digit(x as u64)]);
 }
 
 // A blank and four bits: one digit.
-fn immediate_field(line: Line, immediate: u8) -> Line {
-    hexadecimal_1(put(line, b' '), immediate as u64)
+fn field_1(immediate: u8) {
+    text(&[b' ', digit(immediate as u64)]);
 }
 
-// A number below 100 with no leading zero.
-fn decimal(line: Line, n: u32) -> Line {
-    if n < 10 {
-        return hexadecimal_1(line, n as u64);
-    }
-    hexadecimal_1(hexadecimal_1(line, (n / 10 % 10) as u64), (n % 10) as u64)
+fn hexadecimal_4(n: u64) {
+    text(&[digit(n / 4096), digit(n / 256), digit(n / 16), digit(n)]);
 }
 
-fn hexadecimal_4(line: Line, n: u64) -> Line {
-    hexadecimal_2(hexadecimal_2(line, n / 256), n)
+// The last hexadecimal digit of a number.
+fn digit(n: u64) -> u8 {
+    lent::peek(b"0123456789ABCDEF", (n % 16) as usize)
 }
 
-fn hexadecimal_3(line: Line, n: u64) -> Line {
-    hexadecimal_2(hexadecimal_1(line, n / 256), n)
-}
-
-fn hexadecimal_2(line: Line, n: u64) -> Line {
-    hexadecimal_1(hexadecimal_1(line, n / 16), n)
-}
-
-fn hexadecimal_1(line: Line, n: u64) -> Line {
-    put(line, digit(n))
-}
-
-// The last hexadecimal digit of a number as it is written.
-fn digit(n: u64) -> u8
-    ensures { λ r. ⌜ r ≡ digitOf n ⌝ }
-{
-    let last = (n % 16) as u8;
-    if last < 10 {
-        return b'0' + last;
-    }
-    b'A' + last - 10
-}
-
-fn empty() -> Line {
-    Line {
-        bytes: [0u8; 32],
-        length: 0,
-    }
-}
-
-// Bytes at the end of a line.
-fn text(line: Line, s: &[u8]) -> Line {
-    let mut made = line;
-    let mut i = 0;
-    while i < s.len() {
-        made = put(made, s[i]);
-        i += 1;
-    }
-    made
-}
-
-// One byte at the end of a line.
-fn put(line: Line, byte: u8) -> Line {
-    let at = line.length;
-    if at < 32 {
-        let mut bytes = line.bytes;
-        bytes[at] = byte;
-        return Line {
-            bytes,
-            length: at + 1,
-        };
-    }
-    line
+fn text(s: &[u8]) {
+    io::write_all(STDOUT_FILENO, s);
 }

@@ -9,12 +9,13 @@ use lib.Bits.{bitAnd, bitOr}
 use borrow.Author.Tests.{eq-eqb, ne-eqb, eqb-true}
 use Rattle.lent.specs.Lent.{at}
 use Rattle.lent.proofs.Laws.{by-lt, by-eq}
-use Rattle.sh_state.specs.declared.map.Kind.{Kind}
-use Rattle.sh_state.specs.declared.map.Kind.the-variants.{Register, Data, Display, Scan, Sound, Unmapped}
-use Rattle.sh_state.specs.Map.{kindOf, heldIn, heldOf, writtenIn, writtenOf, askableIn, askableOf}
+use Rattle.sh_map.specs.declared.map.Kind.{Kind}
+use Rattle.sh_map.specs.declared.map.Kind.the-variants.{Register, Data, Display, Scan, Sound, Unmapped}
+use Rattle.sh_map.specs.Map.{kindOf, heldIn, heldOf, writtenIn, writtenOf, askableIn, askableOf}
 use Rattle.sh_state.specs.State.{State}
-use Rattle.sh_state.proofs.Below.{below, below-pair}
-use Rattle.sh_cells.specs.Cells.{plainIn, plainOf, valueOf, keptOf}
+use Rattle.sh_map.proofs.Below.{below, below-pair}
+use Rattle.sh_cells.specs.Cells.{plainIn, plainOf, valueOf}
+use Rattle.sh_writes.specs.Writes.{keptOf}
 use Rattle.writers.specs.Test.{names}
 
 -- a test that fails does not hold

@@ -13,10 +13,10 @@ use Rattle.word.specs.declared.Decoded.{Decoded}
 use Rattle.word.specs.declared.Instruction.{Instruction}
 use Rattle.word.specs.Word.{decodeOf}
 use Rattle.word.proofs.RoundTrip.{encode-decode}
-use Rattle.sh_state.specs.Map.{askableOf}
+use Rattle.sh_map.specs.Map.{askableOf}
 use Rattle.sh_state.specs.Record.{setPc, setAc, setCy, freshOf}
 use Rattle.sh_state.specs.State.{State, state}
-use Rattle.sh_state.proofs.Fits.{Fit, fit-of, cell-small}
+use Rattle.sh_rules.proofs.Fits.{Fit, fit-of, cell-small}
 use Rattle.sh_cells.specs.Cells.{targetOf, valueOf}
 use Rattle.writers.specs.Statement.{Changes}
 use Rattle.writers.specs.Test.{names, writesIn, writesBy, writesOf}

@@ -20,10 +20,11 @@ use Rattle.word.specs.Word.{inRange}
 use Rattle.word.proofs.Laws.{both-below}
 use Rattle.alu.specs.Alu.{calculatedOf, loadedOf, decimalAddedOf, decimalSubtractedOf}
 use Rattle.alu.proofs.Ranges.{calculated-range, decimal-added-range, decimal-subtracted-range}
-use Rattle.sh_state.specs.Map.{askableOf}
+use Rattle.sh_map.specs.Map.{askableOf}
 use Rattle.sh_state.specs.State.{State}
-use Rattle.sh_state.proofs.Within.{nibble-within}
-use Rattle.sh_cells.specs.Cells.{targetOf, valueOf, readOf, keptOf, writeOf}
+use Rattle.sh_map.proofs.Within.{nibble-within}
+use Rattle.sh_cells.specs.Cells.{targetOf, valueOf, readOf}
+use Rattle.sh_writes.specs.Writes.{keptOf, writeOf}
 use Rattle.sh_execute.specs.Execute.{putOf, storedOf, accumulatorFormOf, memoryFormOf, ldaOf, staOf, ldiOf, withImmediateOf, storedImmediateOf, immediateFormOf, daaOf, dasOf, rtnwOf, executeOf}
 use Rattle.writers.specs.Test.{names, changing, writesIn}
 use Rattle.writers.proofs.Cell.{never, past-registers}

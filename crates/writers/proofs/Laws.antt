@@ -8,17 +8,16 @@ use native.Mathlib.Numerals.{add-one}
 use native.Mathlib.Omega.{arith}
 use lib.ListN.{length, take, drop, set, drop-of-length-le, take-append-drop}
 use lib.Seq.{take-suc-set, drop-set-lt, append-snoc}
-use Rattle.lent.specs.Lent.{pick, both, at}
+use Rattle.lent.specs.Lent.{over, pick, both, at}
 use Rattle.lent.proofs.Laws.{drop-more}
 use Rattle.word.specs.declared.Decoded.{Decoded}
 use Rattle.word.specs.declared.ImmediateOperation.{ImmediateOperation}
 use Rattle.word.specs.declared.Instruction.{Instruction}
 use Rattle.word.specs.Word.{decodeOf}
-use Rattle.sh_state.specs.Map.{askableIn, askableOf}
-use Rattle.sh_state.proofs.Laws.{kind-past}
+use Rattle.sh_map.specs.Map.{askableIn, askableOf}
+use Rattle.sh_map.proofs.Laws.{kind-past}
 use Rattle.writers.specs.Test.{changing, writesIn, writesBy, writesOf}
 use Rattle.writers.specs.List.{writersFrom}
-use Rattle.writers.specs.Answer.{over}
 
 pub changing-at : {o k : ImmediateOperation} {r : Bool} (i : ℕ) → o ≡ k → r ≡ changing k i → r ≡ changing o i
 changing-at i p q = q ∙ sym (ap (λ (n : ImmediateOperation). changing n i) p)
@@ -36,11 +35,6 @@ both-on p t q = rw (← p, t, q)
 
 pub both-off : {n a : Bool} (b : Bool) → n ≡ a → n ≡ false → false ≡ both a b
 both-off b p t = rw (← p, t)
-
--- what holds of both choices holds of the choice
-pub by-test : {A : Type 0} (P : A → Type 0) (b : Bool) (x y : A) → (b ≡ true → P x) → (b ≡ false → P y) → P (pick b x y)
-by-test P true x y f g = f refl
-by-test P false x y f g = g refl
 
 -- past the map no cell can be asked for
 pub askable-past : (c : ℕ) → 0x10000 ≤ c → false ≡ askableOf c

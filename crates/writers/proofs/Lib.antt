@@ -5,5 +5,4 @@ pub mod Exact
 pub mod Step
 pub mod Listing
 pub mod Told
-pub mod Numbers
 pub mod Laws

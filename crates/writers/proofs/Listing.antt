@@ -8,11 +8,11 @@ use native.Mathlib.Omega.{arith}
 use native.Mathlib.Nat.{zero-add}
 use lib.ListN.{length}
 use Rattle.lent.specs.Lent.{at}
-use Rattle.sh_state.specs.Map.{askableOf}
-use Rattle.sh_state.proofs.Fits.{fit-of}
+use Rattle.lent.proofs.Laws.{by-test}
+use Rattle.sh_map.specs.Map.{askableOf}
+use Rattle.sh_rules.proofs.Fits.{fit-of}
 use Rattle.writers.specs.Test.{writesOf}
 use Rattle.writers.specs.List.{writersFrom, writersOf, Up, Has, Listing}
-use Rattle.writers.proofs.Laws.{by-test}
 use Rattle.writers.proofs.Exact.{sound, complete}
 
 -- what stands in a list that ascends from k on is at least k

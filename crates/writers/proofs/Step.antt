@@ -14,17 +14,17 @@ use Rattle.word.specs.declared.Instruction.{Instruction}
 use Rattle.word.specs.Word.{decodeOf}
 use Rattle.word.proofs.RoundTrip.{encode-decode}
 use Rattle.sh_state.specs.declared.machine.Machine.{Machine}
-use Rattle.sh_state.specs.declared.judge.Judged.the-variants.{Fine}
-use Rattle.sh_state.specs.Judge.{stateJudged}
-use Rattle.sh_state.specs.Map.{askableOf}
+use Rattle.sh_rules.specs.declared.judge.Judged.the-variants.{Fine}
+use Rattle.sh_rules.specs.Judge.{stateJudged}
+use Rattle.sh_map.specs.Map.{askableOf}
 use Rattle.sh_state.specs.Record.{setMode, setPending}
 use Rattle.sh_state.specs.State.{State, state}
 use Rattle.sh_cells.specs.Cells.{valueOf}
-use Rattle.sh_parts.specs.Request.{requestedOf}
-use Rattle.sh_parts.specs.Interrupt.{dueOf, awakeOf}
+use Rattle.sh_timers.specs.Request.{requestedOf}
+use Rattle.sh_interrupts.specs.Interrupt.{dueOf, awakeOf}
 use Rattle.sh_execute.specs.Execute.{executeOf}
 use Rattle.sh_cycle.specs.Cycle.{readTakenOf, wokenOf, wordInOf, landedOf, clockOf, finishedOf, executedOf, instructedOf, awakeCycleOf, cycleDueOf, cycleOf}
-use Rattle.sh_cycle.specs.Event.{eventOf}
+use Rattle.sh_events.specs.Event.{eventOf}
 use Rattle.writers.specs.Statement.{Changes}
 use Rattle.writers.proofs.Cell.{past-registers}
 use Rattle.writers.proofs.Forms.{leftOf, Form, form-of}

@@ -10,18 +10,18 @@ use lib.ListN.{length, set, replicate, length-set, length-replicate}
 use lib.Seq.{getD-set-same, getD-set-other}
 use borrow.Author.Tests.{ne-eqb}
 use Rattle.lent.specs.Lent.{at}
-use Rattle.sh_state.specs.declared.judge.Judged.the-variants.{Fine}
+use Rattle.sh_rules.specs.declared.judge.Judged.the-variants.{Fine}
 use Rattle.sh_state.specs.declared.machine.Machine.{Machine}
-use Rattle.sh_state.specs.Judge.{stateJudged}
-use Rattle.sh_state.specs.Map.{kindOf, registerBits, heldIn, heldOf, askableOf}
-use Rattle.sh_state.specs.Periods.{periods, periodOf}
+use Rattle.sh_rules.specs.Judge.{stateJudged}
+use Rattle.sh_map.specs.Map.{kindOf, registerBits, heldIn, heldOf, askableOf}
+use Rattle.sh_periods.specs.Periods.{periods, periodOf}
 use Rattle.sh_state.specs.Record.{setPc, setAc, setCy, freshOf}
 use Rattle.sh_state.specs.State.{state}
-use Rattle.sh_state.proofs.Within.{nibble-within}
-use Rattle.sh_state.proofs.Fits.{Fit, MemoryFit, MachineFit, ratio-positive, base-ratio-positive, pc-fits, ac-fits, cy-fits, fit-at, store-keeps, judged-of}
+use Rattle.sh_map.proofs.Within.{nibble-within}
+use Rattle.sh_rules.proofs.Fits.{Fit, MemoryFit, MachineFit, ratio-positive, base-ratio-positive, pc-fits, ac-fits, cy-fits, fit-at, store-keeps, judged-of}
 use Rattle.sh_cells.specs.Cells.{pointedOf, targetOf}
-use Rattle.sh_parts.specs.Interrupt.{dueOf}
-use Rattle.sh_parts.proofs.Laws.{zeros-at}
+use Rattle.sh_interrupts.specs.Interrupt.{dueOf}
+use Rattle.sh_reset.proofs.Laws.{zeros-at}
 use Rattle.writers.specs.Test.{names}
 use Rattle.writers.proofs.Cell.{past-registers, held-askable, names-only}
 

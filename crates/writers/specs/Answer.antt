@@ -1,33 +1,23 @@
 -- The answer of the call: the list of writers, or a refusal (01, the table: 1, 8, 7 last), and what the lent room holds after it.
-use mathlib.Core.List.{List, _++_}
+use mathlib.Core.List.{List}
 use Prim.Native.Nat.{ℕ}
 use lib.Dec.{ltb, eqb}
-use lib.ListN.{length, drop}
-use Rattle.lent.specs.Lent.{pick}
+use lib.ListN.{length}
+use Rattle.lent.specs.Lent.{pick, over}
+use Rattle.lent.specs.Outcome.{Outcome, outcome}
 use Rattle.refusal.specs.declared.Refusal.the-variants.{ProgramLength, Room, NotAskable}
-use Rattle.sh_state.specs.Map.{askableOf}
+use Rattle.sh_map.specs.Map.{askableOf}
 use Rattle.writers.specs.declared.Listed.{Listed}
 use Rattle.writers.specs.declared.Listed.the-variants.{Count, Refused}
 use Rattle.writers.specs.List.{writersOf}
 
-pub record Outcome : Type 0 where
-  pub answer : Listed
-  pub room : List ℕ
-
-abbrev pub outcome : Listed → List ℕ → Outcome
-outcome r o = record { answer = r; room = o }
-
--- the list, and then what stood beyond it
-unfoldable pub over : List ℕ → List ℕ → List ℕ
-over l o = l ++ drop (length l) o
-
 -- 7, with the entries needed; else the list in the room
-unfoldable pub filledOf : List ℕ → List ℕ → Outcome
+unfoldable pub filledOf : List ℕ → List ℕ → Outcome Listed
 filledOf l o =
     pick (ltb (length o) (length l)) (outcome (Refused (Room (length l))) o) (outcome (Count (length l)) (over l o))
 
 -- 1, then 8; a refusal leaves the room
-unfoldable pub listOf : List ℕ → ℕ → List ℕ → Outcome
+unfoldable pub listOf : List ℕ → ℕ → List ℕ → Outcome Listed
 listOf p c o =
     pick (eqb (length p) 4096)
     (pick (askableOf c) (filledOf (writersOf p c) o) (outcome (Refused (NotAskable c)) o))

@@ -6,10 +6,10 @@ use Rattle.lent.specs.Lent.{at}
 use Rattle.word.specs.declared.Decoded.{Decoded}
 use Rattle.word.specs.declared.Instruction.{Instruction}
 use Rattle.word.specs.Word.{decodeOf}
-use Rattle.sh_state.specs.declared.judge.Judged.the-variants.{Fine}
-use Rattle.sh_state.specs.Judge.{stateJudged}
+use Rattle.sh_rules.specs.declared.judge.Judged.the-variants.{Fine}
+use Rattle.sh_rules.specs.Judge.{stateJudged}
 use Rattle.sh_state.specs.State.{State}
-use Rattle.sh_parts.specs.Interrupt.{dueOf}
+use Rattle.sh_interrupts.specs.Interrupt.{dueOf}
 use Rattle.sh_execute.specs.Execute.{executeOf}
 
 -- "some well-formed machine, running, with no enabled interrupt requested and its counter there, has the instruction there leave the

@@ -1,19 +1,20 @@
 // The list of writers (the inspector's third question, demand 3): which addresses of a program hold an instruction that can leave a cell
 // with another value.
 use refusal::Refusal;
+use sh_map::map;
 use sh_state::machine::Machine;
-use sh_state::map;
 use word::Decoded;
 use word::ImmediateOperation;
 use word::Instruction;
 ghost use mathlib.Core.Path.{_≡_};
 ghost use Prim.Native.Nat.{_≤_};
 ghost use lib.ListN.{length};
-ghost use Rattle.lent.specs.Lent.{both};
-ghost use Rattle.sh_state.specs.Map.{askableOf};
+ghost use Rattle.lent.specs.Lent.{both, over};
+ghost use Rattle.lent.specs.Outcome.{outcome};
+ghost use Rattle.sh_map.specs.Map.{askableOf};
 ghost use Rattle.writers.specs.Test.{names, changing, writesIn, writesOf};
 ghost use Rattle.writers.specs.List.{writersOf};
-ghost use Rattle.writers.specs.Answer.{outcome, over, listOf};
+ghost use Rattle.writers.specs.Answer.{listOf};
 
 pub enum Listed {
     Count(usize),

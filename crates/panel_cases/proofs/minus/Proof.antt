@@ -2,7 +2,7 @@
 use native.Mathlib.Omega.{arith}
 use mir.Syntax.{w32}
 use mir.ValLaws.{toZ-pos}
-use Rattle.panel.proofs.Laws.{difference-within}
+use Rattle.level.proofs.Laws.{difference-within}
 use borrow.Author.Needs.{needs}
 use Rattle.panel_cases.proofs.minus.Statement.{statement}
 use Rattle.panel_cases.proofs.minus.Tie as tie

@@ -7,7 +7,7 @@ use native.Mathlib.Omega.{arith}
 use borrow.Author.Needs.{needs}
 use lib.ListN.{length, drop, length-set}
 use Rattle.writers.specs.List.{writersFrom, writersOf}
-use Rattle.writers.specs.Answer.{over}
+use Rattle.lent.specs.Lent.{over}
 use Rattle.writers.proofs.Laws.{none-left, one-here, none-here, placed, placed-start, placed-end, placed-on}
 use Rattle.writers.proofs.fill.Statement.{statement}
 use Rattle.writers.proofs.fill.Tie as tie

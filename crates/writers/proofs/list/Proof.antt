@@ -8,10 +8,12 @@ use borrow.Author.Needs.{needs}
 use borrow.Author.Tests.{eq-eqb, ne-eqb, lt-ltb, le-ltb, not-true, not-false}
 use lib.ListN.{length}
 use Rattle.refusal.specs.declared.Refusal.the-variants.{ProgramLength, Room, NotAskable}
-use Rattle.sh_state.specs.Map.{askableOf}
+use Rattle.sh_map.specs.Map.{askableOf}
 use Rattle.writers.specs.declared.Listed.the-variants.{Count, Refused}
 use Rattle.writers.specs.List.{writersOf}
-use Rattle.writers.specs.Answer.{outcome, over, filledOf, listOf}
+use Rattle.writers.specs.Answer.{filledOf, listOf}
+use Rattle.lent.specs.Lent.{over}
+use Rattle.lent.specs.Outcome.{outcome}
 use Rattle.writers.proofs.Cell.{past-registers}
 use Rattle.writers.proofs.list.Statement.{statement}
 use Rattle.writers.proofs.list.Tie as tie

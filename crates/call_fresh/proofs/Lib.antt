@@ -1,0 +1,2 @@
+pub mod AsReset
+pub mod Leaves

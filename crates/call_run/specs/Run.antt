@@ -1,0 +1,58 @@
+-- The call run: 1 to 5 before anything moves, 5 over the whole script; else the run (01, "A run stops ..").
+use Prim.Native.Nat.{ℕ, _+_}
+use mathlib.Core.List.{List, [], _∷_}
+use lib.Dec.{eqb}
+use lib.ListN.{length}
+use Rattle.lent.specs.Lent.{pick}
+use Rattle.refusal.specs.declared.Refusal.{Refusal}
+use Rattle.refusal.specs.declared.Refusal.the-variants.{ProgramLength, UnknownEvent, UnlistedWord}
+use Rattle.sh_state.specs.State.{State}
+use Rattle.sh_state.specs.declared.machine.Machine.{Machine}
+use Rattle.sh_rules.specs.declared.judge.Judged.{Judged}
+use Rattle.lent.specs.declared.Found.{Found}
+use Rattle.sh_rules.specs.Judge.{stateJudged}
+use Rattle.sh_known.specs.Known.{knownOf}
+use Rattle.sh_run.specs.declared.Stop.{Stop}
+use Rattle.sh_run.specs.Run.{Ran, runOf}
+use Rattle.call_run.specs.declared.Reason.{Reason}
+
+-- what a run answers: why it stopped, or the refusal, and how many events were done
+pub record RunAnswered : Type 0 where
+  pub reason : Reason
+  pub events : ℕ
+  pub after : State
+
+abbrev pub runAnswered : Reason → ℕ → State → RunAnswered
+runAnswered r n s = record { reason = r; events = n; after = s }
+
+abbrev pub runRefused : Refusal → State → RunAnswered
+runRefused why s = runAnswered (Reason.Refused why) 0 s
+
+-- why a run stopped; before an unlisted word is refusal 6, with the word's address
+unfoldable pub reasonOf : Stop → Machine → Reason
+reasonOf Stop.Address m = Reason.Address
+reasonOf Stop.Unlisted m = Reason.Refused (UnlistedWord (m .pc))
+reasonOf Stop.End m = Reason.End
+
+unfoldable pub runToldOf : Ran → RunAnswered
+runToldOf r = runAnswered (reasonOf (r .why) (r .after .machine)) (r .events) (r .after)
+
+-- the first place, from i on, of a byte that is no event
+unfoldable pub unknownFrom : List ℕ → ℕ → Found
+unknownFrom [] i = Found.Nothing
+unknownFrom (e ∷ script) i = pick (knownOf e) (unknownFrom script (i + 1)) (Found.At i)
+
+-- 5: unknown event
+unfoldable pub runFoundOf : List ℕ → State → List ℕ → ℕ → Found → RunAnswered
+runFoundOf p s script target (Found.At i) = runRefused (UnknownEvent i) s
+runFoundOf p s script target Found.Nothing = runToldOf (runOf p target script s 0)
+
+-- 2, 3, 4: the memory, its cells, the record
+unfoldable pub runJudgedOf : List ℕ → State → List ℕ → ℕ → Judged → RunAnswered
+runJudgedOf p s script target Judged.Fine = runFoundOf p s script target (unknownFrom script 0)
+runJudgedOf p s script target (Judged.Refused why) = runRefused why s
+
+-- 1: program not 4,096 words
+unfoldable pub runCallOf : List ℕ → State → List ℕ → ℕ → RunAnswered
+runCallOf p s script target =
+    pick (eqb (length p) 4096) (runJudgedOf p s script target (stateJudged s)) (runRefused (ProgramLength (length p)) s)

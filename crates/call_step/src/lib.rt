@@ -1,0 +1,2 @@
+// The call step, with its refusals.
+pub mod step;

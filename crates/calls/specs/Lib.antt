@@ -1,4 +1,0 @@
-pub mod Answer
-pub mod Fresh
-pub mod Step
-pub mod Run

@@ -1,2 +1,0 @@
-pub mod Picture
-pub mod Level

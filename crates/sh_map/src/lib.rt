@@ -1,0 +1,2 @@
+// The SH67P54's memory map.
+pub mod map;

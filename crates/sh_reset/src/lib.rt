@@ -1,0 +1,2 @@
+// Resets: by the pin and by the watchdog.
+pub mod reset;

@@ -1,0 +1,60 @@
+-- `sh_rules::rules::first_broken`: the invariant is that the search from i on finds what the search of the whole finds.
+use borrow.Author.Tests.{not-true, not-false}
+use borrow.Author.Needs.{needs}
+use Prim.Native.Nat.{_≤_, _-_}
+use mathlib.Core.Path.{_≡_, _∙_, refl}
+use native.Mathlib.Omega.{arith}
+use lib.ListN.{length, drop}
+use Rattle.sh_rules.specs.Rules.{brokenFrom}
+use Rattle.sh_rules.proofs.Laws.{broken-end, broken-here, broken-on}
+use Rattle.sh_rules.proofs.rules.first_broken.Statement.{statement}
+use Rattle.sh_rules.proofs.rules.first_broken.Tie as tie
+
+abbrev Inv-loop : tie.InvT-loop
+Inv-loop memory i₀ i = (i ≤ length memory) × (brokenFrom (drop i memory) i ≡ brokenFrom memory 0)
+
+abbrev μ-loop : tie.MeasureT-loop
+μ-loop memory i₀ i = length memory - i
+
+loop-holds : tie.Need-loop-holds Inv-loop μ-loop
+loop-holds c = (omega arith, refl)
+
+shared-slice-read-cell-fits : tie.Need-shared-slice-read-cell-fits Inv-loop μ-loop
+shared-slice-read-cell-fits c = omega arith
+
+cell-fits-requires : tie.Need-cell-fits-requires Inv-loop μ-loop
+cell-fits-requires c κs = search needs
+
+returns : tie.Need-returns Inv-loop μ-loop
+returns c =
+    let a = c .before .before .before in
+    broken-here _ _ (a .loop-test .taken) _ (c .before .cell-fits .ensures) (not-true _ (c .if1 .taken)) ∙ a .before .loop .inv .1
+
+add-i : tie.Need-add-i Inv-loop μ-loop
+add-i c = omega arith
+
+loop-less : tie.Need-loop-less Inv-loop μ-loop
+loop-less c = omega arith
+
+loop-again : tie.Need-loop-again Inv-loop μ-loop
+loop-again c =
+    let a = c .before .before .before in
+    (omega arith, broken-on _ _ (a .loop-test .taken) _ (c .before .cell-fits .ensures) (not-false _ (c .if1 .left)) ∙ a .before .loop .inv .1)
+
+returns-2 : tie.Need-returns-2 Inv-loop μ-loop
+returns-2 c = broken-end _ _ (c .loop-test .left) ∙ c .before .loop .inv .1
+
+pub first-broken-spec : {M : Type 1} → statement M
+first-broken-spec =
+    tie.close
+    (tie.spec
+    Inv-loop
+    μ-loop
+    loop-holds
+    shared-slice-read-cell-fits
+    cell-fits-requires
+    returns
+    add-i
+    loop-less
+    loop-again
+    returns-2)

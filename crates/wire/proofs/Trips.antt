@@ -1,0 +1,53 @@
+-- The record and its 37 bytes turn into each other without loss.
+use Prim.Native.Nat.{ℕ, zero, suc, _+_, _*_, _/_, _%_, _<_}
+use mathlib.Core.Path.{_≡_, ap, sym, _∙_}
+use mathlib.Core.List.{List, [], _∷_}
+use native.Mathlib.Omega.{arith}
+use lib.ListN.{length, getD, drop, drop-of-length-le}
+use lib.Seq.{drop-cons}
+use Rattle.sh_state.specs.declared.machine.Machine.{Machine}
+use Rattle.lent.specs.Lent.{pairAtOf}
+use Rattle.wire.specs.Words.{pairsOf}
+use Rattle.wire.specs.Record.{bytesOf, recordOf}
+
+-- n entries from i on
+abbrev spread : ℕ → ℕ → List ℕ → List ℕ
+spread zero i l = []
+spread (suc n) i l = getD l i 0 ∷ spread n (suc i) l
+
+spread-is : (n i : ℕ) (l : List ℕ) → i + n ≡ length l → spread n i l ≡ drop i l
+spread-is zero i l h = sym (drop-of-length-le l {i = i} (omega arith))
+spread-is (suc n) i l h =
+    ap (λ (t : List ℕ). getD l i 0 ∷ t) (spread-is n (suc i) l (omega arith)) ∙ sym (drop-cons l i 0 (omega arith))
+
+-- a list of n is its n entries: at a numeral n the left side computes to them
+pub spread-all : (n : ℕ) (l : List ℕ) → length l ≡ n → spread n 0 l ≡ l
+spread-all n l h = spread-is n 0 l (omega arith)
+
+-- each word of the record fits two bytes, and the stack has eight entries
+pub record Sized (m : Machine) : Type 0 where
+  pub pc : m .pc < 65536
+  pub prescaler : m .prescaler < 65536
+  pub watchdog : m .watchdog < 65536
+  pub address : m .address < 65536
+  pub eight : length (m .stack) ≡ 8
+  pub entries : (k : ℕ) → getD (m .stack) k 0 < 65536
+
+joined : {v : ℕ} → v < 65536 → 256 * (v / 256 % 256) + v % 256 ≡ v
+joined h = omega arith
+
+high : {a b : ℕ} → a < 256 → b < 256 → (256 * a + b) / 256 % 256 ≡ a
+high ha hb = omega arith
+
+low : (a : ℕ) {b : ℕ} → b < 256 → (256 * a + b) % 256 ≡ b
+low a hb = omega arith
+
+pub there-and-back : (m : Machine) → Sized m → recordOf (bytesOf m) ≡ m
+unfolding bytesOf recordOf pairAtOf pairsOf
+there-and-back m ok =
+    simp (joined (ok .pc), joined (ok .prescaler), joined (ok .watchdog), joined (ok .address), joined (ok .entries 0), joined (ok .entries 1), joined (ok .entries 2), joined (ok .entries 3), joined (ok .entries 4), joined (ok .entries 5), joined (ok .entries 6), joined (ok .entries 7), spread-all 8 (m .stack) (ok .eight))
+
+pub back-and-there : (l : List ℕ) → length l ≡ 37 → ((k : ℕ) → getD l k 0 < 256) → bytesOf (recordOf l) ≡ l
+unfolding bytesOf recordOf pairAtOf pairsOf
+back-and-there l n b =
+    simp (high (b 0) (b 1), low (getD l 0 0) (b 1), high (b 5) (b 6), low (getD l 5 0) (b 6), high (b 7) (b 8), low (getD l 7 0) (b 8), high (b 9) (b 10), low (getD l 9 0) (b 10), high (b 11) (b 12), low (getD l 11 0) (b 12), high (b 13) (b 14), low (getD l 13 0) (b 14), high (b 15) (b 16), low (getD l 15 0) (b 16), high (b 17) (b 18), low (getD l 17 0) (b 18), high (b 19) (b 20), low (getD l 19 0) (b 20), high (b 21) (b 22), low (getD l 21 0) (b 22), high (b 27) (b 28), low (getD l 27 0) (b 28), high (b 35) (b 36), low (getD l 35 0) (b 36)) (spread-all 37 l n)

@@ -1,0 +1,38 @@
+-- The machine's record as 37 bytes: fields in 01's order ("What is lent"), high byte first.
+use Prim.Native.Nat.{ℕ}
+use mathlib.Core.List.{List, [], _∷_, _++_}
+use Rattle.lent.specs.Lent.{at, pairAtOf}
+use Rattle.sh_state.specs.declared.machine.Machine.{Machine}
+use Rattle.wire.specs.Words.{two, pairsOf}
+
+-- 2 bytes: PC, each stack entry, Timer0 prescaler, watchdog count, pending address; 1 byte: every other field
+unfoldable pub recordOf : List ℕ → Machine
+recordOf l =
+    record {
+      pc = pairAtOf l 0;
+      ac = at l 2;
+      cy = at l 3;
+      mode = at l 4;
+      stack = pairAtOf l 5 ∷ pairAtOf l 7 ∷ pairAtOf l 9 ∷ pairAtOf l 11 ∷ pairAtOf l 13 ∷ pairAtOf l 15 ∷ pairAtOf l 17 ∷ pairAtOf l 19 ∷ [];
+      prescaler = pairAtOf l 21;
+      counter = at l 23;
+      load = at l 24;
+      baseprescaler = at l 25;
+      basecounter = at l 26;
+      watchdog = pairAtOf l 27;
+      pina = at l 29;
+      pinb = at l 30;
+      pinc = at l 31;
+      pind = at l 32;
+      options = at l 33;
+      pending = at l 34;
+      address = pairAtOf l 35;
+    }
+
+unfoldable pub bytesOf : Machine → List ℕ
+bytesOf m =
+    two (m .pc) (m .ac ∷ m .cy ∷ m .mode
+    ∷ pairsOf (m .stack) 8
+    ++ two (m .prescaler) (m .counter ∷ m .load ∷ m .baseprescaler ∷ m .basecounter
+    ∷ two (m .watchdog) (m .pina ∷ m .pinb ∷ m .pinc ∷ m .pind ∷ m .options ∷ m .pending
+    ∷ two (m .address) [])))
