@@ -1,0 +1,25 @@
+-- picture, for C: how many elements were written, or what stood there where it is refused.
+use Prim.Native.Nat.{ℕ}
+use mathlib.Core.List.{List}
+use lib.Dec.{eqb}
+use lib.ListN.{length}
+use Rattle.lent.specs.Lent.{pick}
+use Rattle.sh_state.specs.State.{state}
+use Rattle.lent.specs.Outcome.{Outcome}
+use Rattle.picture.specs.declared.Drawn.{Drawn}
+use Rattle.picture.specs.Picture.{pictureOf}
+use Rattle.wire.specs.Record.{recordOf}
+use Rattle.host.specs.Told.{Counted, counted, Filled, filled, doneTold, refusedTold, shortTold}
+
+unfoldable pub drawnTold : Drawn → ℕ → Counted
+drawnTold (Drawn.Elements n) count = counted doneTold n
+drawnTold (Drawn.Refused why) count = counted (refusedTold why) count
+
+unfoldable pub pictureTold : Outcome Drawn → ℕ → Filled
+pictureTold a count = filled (drawnTold (a .answer) count) (a .room)
+
+unfoldable pub hostPictureOf : List ℕ → List ℕ → List ℕ → List ℕ → ℕ → Filled
+hostPictureOf l b wiring room count =
+    pick (eqb (length b) 37)
+    (pictureTold (pictureOf (state (recordOf b) l) wiring room) count)
+    (filled (counted (shortTold l) count) room)

@@ -1,0 +1,9 @@
+// The calls as C makes them: numbers and byte slices.
+pub mod books;
+pub mod fresh;
+pub mod levels;
+pub mod list;
+pub mod pictures;
+pub mod run;
+pub mod step;
+mod told;
