@@ -927,8 +927,8 @@ static void make_contents(uint8_t contents[CONTENTS_BYTES], const size_t length[
     }
 }
 
-uint32_t second_book_read(const uint8_t *book, size_t book_len, uint64_t *wiring, uint64_t *wiring_len,
-                          uint64_t *level, uint64_t *level_len, uint64_t *program, uint64_t *program_len,
+uint32_t second_book_read(const uint8_t *book, size_t book_len, uint64_t *program, uint64_t *program_len,
+                          uint64_t *wiring, uint64_t *wiring_len, uint64_t *level, uint64_t *level_len,
                           uint64_t *value)
 {
     const size_t wiring_at = CONTENTS_BYTES + SECOND_PROGRAM_BYTES;

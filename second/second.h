@@ -42,8 +42,8 @@ uint32_t second_picture(const uint8_t *memory, size_t memory_len, const uint8_t 
                         uint64_t *count, uint64_t *value);
 
 /* The outs are offsets into the book and lengths of its three bodies. */
-uint32_t second_book_read(const uint8_t *book, size_t book_len, uint64_t *wiring, uint64_t *wiring_len,
-                          uint64_t *level, uint64_t *level_len, uint64_t *program, uint64_t *program_len,
+uint32_t second_book_read(const uint8_t *book, size_t book_len, uint64_t *program, uint64_t *program_len,
+                          uint64_t *wiring, uint64_t *wiring_len, uint64_t *level, uint64_t *level_len,
                           uint64_t *value);
 
 uint32_t second_book_write(const uint8_t *program, size_t program_len, const uint8_t *wiring, size_t wiring_len,

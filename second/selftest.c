@@ -2062,7 +2062,7 @@ static void pictures(void)
     is("length", (long long)told, 1025);
 }
 
-static uint64_t bodies[6]; /* offset and length of wiring, level, program */
+static uint64_t bodies[6]; /* offset and length of program, wiring, level */
 
 static uint32_t read_book(const uint8_t *book, uint64_t length)
 {
@@ -2098,12 +2098,12 @@ static void books(void)
 
     from("01, Panel book: reading");
     is("done", read_book(book, length), 0);
-    is("wiring", (long long)bodies[0], 8208);
-    is("wiring's length", (long long)bodies[1], 6);
-    is("level", (long long)bodies[2], 8214);
-    is("level's length", (long long)bodies[3], 5);
-    is("program", (long long)bodies[4], 16);
-    is("program's length", (long long)bodies[5], 8192);
+    is("wiring", (long long)bodies[2], 8208);
+    is("wiring's length", (long long)bodies[3], 6);
+    is("level", (long long)bodies[4], 8214);
+    is("level's length", (long long)bodies[5], 5);
+    is("program", (long long)bodies[0], 16);
+    is("program's length", (long long)bodies[1], 8192);
 
     from("01, What comes back, 10; reading 23");
     for (int byte = 0; byte < 16; byte++) {

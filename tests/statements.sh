@@ -1,5 +1,6 @@
 #!/usr/bin/env bash
-# Every public function of every library crate has an `ensures` and a row in docs/STATEMENTS.md, and every must-fail edit is named there.
+# Every public function of every library crate has an `ensures`, a row in docs/STATEMENTS.md and at least two must-fail edits there, and
+# every must-fail edit is named there.
 # Its last line is 'N passed, M failed'.
 set -u
 cd "$(dirname "$0")/.." || exit 2
@@ -10,12 +11,12 @@ wrong() {
 }
 
 for crate in crates/*/; do
-    [ -e "$crate/src/main.rt" ] && continue
     name=$(basename "$crate")
     section=$(awk -v s="## \`$name\`" '$0 == s { on = 1; next } /^## / { on = 0 } on' docs/STATEMENTS.md)
     for file in "$crate"src/*.rt; do
         module=$(basename "$file" .rt)
-        # what stands in a private module is not public
+        # a program has no public function, and what stands in a private module is not public
+        [ -e "$crate/src/main.rt" ] && break
         [ "$module" = lib ] || grep -q "^pub mod $module;" "$crate/src/lib.rt" || continue
         while read -r fn promised; do
             row="[:\`]$fn\` |"
@@ -23,6 +24,8 @@ for crate in crates/*/; do
                 wrong "$file: $fn has no row in docs/STATEMENTS.md"
             elif [ "$promised" != yes ]; then
                 wrong "$file: $fn has no ensures"
+            elif [ "$(printf '%s\n' "$section" | grep -c "^| \`[a-z0-9_]*\` | \`\([A-Za-z0-9_]*::\)*$fn\` |")" -lt 2 ]; then
+                wrong "$file: $fn has fewer than two must-fail edits in docs/STATEMENTS.md"
             else
                 passed=$((passed + 1))
             fi

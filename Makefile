@@ -1,0 +1,131 @@
+# The C side: the desk command, its example, the comparison with the second emulator, and the measurements.
+#   make demo            builds what is missing and runs the main job on the example book
+#   make test            all tests of the C side; the last line tells how many passed and failed
+#   make test-sanitized  the same with the address and undefined-behaviour sanitizers, with fewer events
+#   make bench           speed beside the second emulator
+CC = gcc
+CXX = g++
+STRICT = -Wall -Wextra -pedantic
+CFLAGS = -O2 $(STRICT)
+SANITIZE = -fsanitize=address,undefined -fno-sanitize-recover=all -fno-omit-frame-pointer
+
+EVENTS = 20000000
+SANITIZED_EVENTS = 1000000
+
+# The proved library. Another archive with the same calls can be tested by make LIB=...
+LIB = target/staticlib/libhost.a
+
+# The library holds x86-64 code. On another processor what links with it is compiled for x86-64 by the kit's compiler,
+# with the system's headers, and runs under the kit's emulator; the sanitized build is native, with a stand-in for the
+# library.
+ifeq ($(shell uname -m),x86_64)
+LINKED_CC = $(CC)
+LINKED_CXX = $(CXX)
+LINK = $(CC) -o $@ $^
+SANITIZED_LIB = $(LIB)
+else
+KIT := $(abspath $(dir $(realpath $(shell command -v rt)))/../on/$(shell uname -m)/toolchain)
+FOREIGN = --target=x86_64-linux-gnu -fPIE -isystem $(shell $(CC) -print-file-name=include) \
+    -isystem /usr/include/$(shell $(CC) -print-multiarch) -isystem /usr/include
+LINKED_CC = $(KIT)/bin/clang $(FOREIGN)
+LINKED_CXX = $(KIT)/bin/clang --driver-mode=g++ $(FOREIGN)
+LINK = tests/link-foreign.sh $(KIT) $@ $^
+SANITIZED_LIB = build/sanitized/libstandin.a
+endif
+
+SECOND = second/second.c second/search.c second/instruction.c
+DESK = $(wildcard desk/*.c)
+COMPARE = $(wildcard tests/compare*.c) tests/support.c tests/counting.c tests/machines.c tests/forms.c
+TEXT = tests/text.c desk/assembler.c desk/files.c desk/listing.c desk/texts.c
+TRIALS = tests/trials.c tests/counting.c tests/machines.c tests/forms.c
+HEADERS = $(wildcard desk/*.h tests/*.h second/*.h)
+
+all: desk
+
+archive: $(LIB)
+
+target/staticlib/libhost.a: crates.txt $(wildcard crates/*/src/*.rt)
+	rt staticlib host
+	@touch $@
+
+desk: build/plain/desk
+
+demo: build/plain/desk
+	build/plain/desk demo examples
+
+# ---- Objects: linked with the library, native, and native with sanitizers ----
+
+build/plain/objects/%.o: %.c $(HEADERS)
+	@mkdir -p $(dir $@)
+	$(LINKED_CC) -std=c11 $(CFLAGS) -c -o $@ $<
+
+build/plain/objects/%.o: %.cpp $(HEADERS)
+	@mkdir -p $(dir $@)
+	$(LINKED_CXX) -std=c++11 $(CFLAGS) -c -o $@ $<
+
+build/native/objects/%.o: %.c $(HEADERS)
+	@mkdir -p $(dir $@)
+	$(CC) -std=c11 $(CFLAGS) -c -o $@ $<
+
+build/sanitized/objects/%.o: %.c $(HEADERS)
+	@mkdir -p $(dir $@)
+	$(CC) -std=c11 $(CFLAGS) $(SANITIZE) -c -o $@ $<
+
+build/sanitized/libstandin.a: $(patsubst %.c,build/sanitized/objects/%.o,tests/standin.c $(SECOND))
+	rm -f $@
+	ar rcs $@ $^
+
+# ---- Programs ----
+
+build/plain/desk: $(DESK:%.c=build/plain/objects/%.o) $(LIB)
+	$(LINK)
+
+build/plain/compare: $(patsubst %.c,build/plain/objects/%.o,$(COMPARE) $(SECOND)) $(LIB)
+	$(LINK)
+
+build/plain/measure: $(patsubst %.c,build/plain/objects/%.o,bench/bench.c $(SECOND)) $(LIB)
+	$(LINK)
+
+build/plain/header: build/plain/objects/tests/header.o $(LIB)
+	$(LINK)
+
+build/plain/header-cpp: build/plain/objects/tests/header-cpp.o $(LIB)
+	$(LINK)
+
+build/native/trials: $(patsubst %.c,build/native/objects/%.o,$(TRIALS) $(SECOND))
+	$(CC) -o $@ $^
+
+build/native/text: $(patsubst %.c,build/native/objects/%.o,$(TEXT) second/instruction.c)
+	$(CC) -o $@ $^
+
+build/sanitized/desk: $(DESK:%.c=build/sanitized/objects/%.o) $(SANITIZED_LIB)
+	$(CC) $(SANITIZE) -o $@ $^
+
+build/sanitized/compare: $(patsubst %.c,build/sanitized/objects/%.o,$(COMPARE) $(SECOND)) $(SANITIZED_LIB)
+	$(CC) $(SANITIZE) -o $@ $^
+
+build/sanitized/text: $(patsubst %.c,build/sanitized/objects/%.o,$(TEXT) second/instruction.c)
+	$(CC) $(SANITIZE) -o $@ $^
+
+# ---- Tests ----
+
+test: build/plain/header build/plain/header-cpp build/plain/desk build/plain/compare build/native/text build/native/trials
+	@tests/all.sh "tests/header.sh $(CC) $(CXX)" build/plain/header build/plain/header-cpp build/native/text \
+	    "tests/desk.sh build/plain/desk" "build/native/trials build/trials" \
+	    "tests/beside.sh 'build/plain/compare calls --trials build/trials' 'build/plain/compare runs --events $(EVENTS)'"
+
+# Leaks are not looked for: every command of the desk would take seconds to end, and none lives long.
+test-sanitized: build/sanitized/desk build/sanitized/compare build/sanitized/text build/native/trials
+	@ASAN_OPTIONS=detect_leaks=0 tests/all.sh build/sanitized/text "tests/desk.sh build/sanitized/desk" \
+	    "build/native/trials build/trials" \
+	    "tests/clean.sh build/sanitized/compare calls --trials build/trials --machines 2 --cell-stride 200" \
+	    "tests/clean.sh build/sanitized/compare runs --events $(SANITIZED_EVENTS)"
+
+bench: build/plain/measure
+	build/plain/measure
+
+clean:
+	rm -rf build
+
+.PHONY: all archive desk demo test test-sanitized bench clean
+.SECONDARY:

@@ -1,0 +1,491 @@
+/* The desk command: panel books, machine states and scripts as files, worked on by the library of galhoveia.h. */
+#include "drawing.h"
+#include "panel.h"
+#include "refusal.h"
+#include "texts.h"
+
+#include <stdio.h>
+#include <stdlib.h>
+#include <string.h>
+
+/* ---- What a command is called with ---- */
+
+struct command {
+    const char *name;
+    const char *usage;
+    const char *about;
+    const char *help;         /* what the usage leaves open; NULL for nothing */
+    const char *const *texts; /* descriptions of text forms, ended by NULL; NULL for none */
+    enum status (*work)(const struct command *command, int count, char **words);
+};
+
+struct option {
+    const char *name;
+    const char **value; /* NULL for an option that takes none */
+    bool *given;        /* NULL for an option with a value */
+};
+
+static _Noreturn void wrong_use(const struct command *command, const char *what, const char *word)
+{
+    fflush(stdout);
+    fprintf(stderr, "desk %s: %s%s%s\nusage: desk %s\ndesk %s --help tells more\n", command->name, what,
+            word ? " " : "", word ? word : "", command->usage, command->name);
+    exit(WRONG_USE);
+}
+
+/* Parts the words of a command line into options and the others, which must be `wanted` in number. */
+static void take_words(const struct command *command, int count, char **words, const struct option *options,
+                       const char **others, int wanted)
+{
+    int found = 0;
+    bool options_over = false;
+
+    for (int at = 0; at < count; at++) {
+        const struct option *option = options;
+
+        if (options_over || strncmp(words[at], "--", 2) != 0) {
+            if (found == wanted)
+                wrong_use(command, "one word too many:", words[at]);
+            others[found++] = words[at];
+            continue;
+        }
+        if (strcmp(words[at], "--") == 0) {
+            options_over = true;
+            continue;
+        }
+        while (option->name != NULL && strcmp(option->name, words[at]) != 0)
+            option++;
+        if (option->name == NULL)
+            wrong_use(command, "unknown option", words[at]);
+        if (option->value == NULL) {
+            *option->given = true;
+            continue;
+        }
+        if (at + 1 == count)
+            wrong_use(command, "a value is due after", words[at]);
+        *option->value = words[++at];
+    }
+    if (found < wanted)
+        wrong_use(command, "something is missing", NULL);
+}
+
+/* A hex number with or without $ or 0x before it, as addresses are given on the command line. */
+static uint32_t hex_from(const struct command *command, const char *text)
+{
+    char with_mark[64];
+    unsigned long long number;
+    bool marked = text[0] == '$' || strncmp(text, "0x", 2) == 0 || strncmp(text, "0X", 2) == 0;
+
+    if (snprintf(with_mark, sizeof with_mark, "%s%s", marked ? "" : "$", text) >= (int)sizeof with_mark
+        || !number_from(with_mark, strlen(with_mark), UINT32_MAX, &number))
+        wrong_use(command, "not a hex number up to FFFFFFFF:", text);
+    return (uint32_t)number;
+}
+
+static uint32_t decimal_from(const struct command *command, const char *text, uint32_t most)
+{
+    unsigned long long number;
+
+    if (!number_from(text, strlen(text), most, &number))
+        wrong_use(command, "not a number that fits here:", text);
+    return (uint32_t)number;
+}
+
+/* ---- The commands ---- */
+
+static struct bytes read_text(const char *path, size_t most, struct bytes (*from_text)(const char *, const char *))
+{
+    struct bytes file = read_file(path, most), made;
+
+    if (memchr(file.at, 0, file.length) != NULL)
+        fail("%s is no text", path);
+    made = from_text(path, (const char *)file.at);
+    free(file.at);
+    return made;
+}
+
+static enum status work_fresh(const struct command *command, int count, char **words)
+{
+    const char *path[1], *options = "0";
+    bool force = false;
+    const struct option known[] = {{"--options", &options, NULL}, {"--force", NULL, &force}, {NULL, NULL, NULL}};
+    struct state state;
+
+    take_words(command, count, words, known, path, 1);
+    may_write(path[0], force);
+    if (!make_fresh(&state, decimal_from(command, options, UINT32_MAX)))
+        return REFUSED;
+    write_state(path[0], &state, force);
+    printf("%s: a fresh machine\n", path[0]);
+    return DONE;
+}
+
+/* Runs a stretch of events and says how it ended. A run before an unlisted word is a refusal, but its state counts. */
+static uint32_t run_events(const struct book *book, struct state *state, const uint8_t *events, size_t length,
+                           uint32_t stop, uint32_t *reason, uint64_t *done)
+{
+    uint64_t value = 0;
+    uint32_t refusal;
+
+    *reason = GALHOVEIA_AT_END;
+    *done = 0;
+    refusal = galhoveia_run(book->program.at, book->program.length, state->memory, sizeof state->memory, state->record,
+                            sizeof state->record, events, length, stop, reason, done, &value);
+    if (refusal != GALHOVEIA_DONE)
+        say_refusal("the run", refusal, value);
+    if (refusal != GALHOVEIA_DONE && refusal != GALHOVEIA_UNLISTED_WORD)
+        return refusal;
+    printf("%llu of %zu events done; stopped ", (unsigned long long)*done, length);
+    if (*reason == GALHOVEIA_AT_ADDRESS)
+        printf("at $%03lX\n", (unsigned long)stop);
+    else
+        printf(*reason == GALHOVEIA_AT_UNLISTED ? "before a word that is no instruction\n" : "at the script's end\n");
+    show_registers(state);
+    return refusal;
+}
+
+static struct look look_from(const struct command *command, bool raw, const char *digits, const char *columns)
+{
+    struct look look = {raw, 0, COLUMNS_USUAL};
+
+    look.digits = decimal_from(command, digits, GALHOVEIA_ELEMENTS_MOST);
+    if (columns != NULL)
+        look.columns = decimal_from(command, columns, GALHOVEIA_ELEMENTS_MOST);
+    if (look.columns == 0)
+        wrong_use(command, "at least one column is due after", "--columns");
+    return look;
+}
+
+static enum status work_run(const struct command *command, int count, char **words)
+{
+    const char *others[2], *stop = NULL, *from = NULL, *save = NULL, *options = NULL, *digits = "0", *columns = NULL;
+    bool force = false, raw_script = false, show = false;
+    const struct option known[] = {{"--stop", &stop, NULL},     {"--state", &from, NULL},
+                                   {"--save", &save, NULL},     {"--options", &options, NULL},
+                                   {"--digits", &digits, NULL}, {"--columns", &columns, NULL},
+                                   {"--force", NULL, &force},   {"--raw-script", NULL, &raw_script},
+                                   {"--show", NULL, &show},     {NULL, NULL, NULL}};
+    uint32_t stop_address = GALHOVEIA_NO_STOP, refusal, reason;
+    struct look look;
+    struct book book;
+    struct state state;
+    struct bytes script;
+    uint64_t done;
+    enum status status = DONE;
+
+    take_words(command, count, words, known, others, 2);
+    look = look_from(command, false, digits, columns);
+    if (stop != NULL)
+        stop_address = hex_from(command, stop);
+    if (from != NULL && options != NULL)
+        wrong_use(command, "--options is for a fresh machine, so not with", "--state");
+    if (save != NULL)
+        may_write(save, force);
+    script = raw_script ? read_file(others[1], SCRIPT_FILE_MOST)
+                        : read_text(others[1], SCRIPT_FILE_MOST, script_from_text);
+    if (from != NULL)
+        read_state(from, &state);
+    else if (!make_fresh(&state, options ? decimal_from(command, options, UINT32_MAX) : 0))
+        status = REFUSED;
+    if (status == DONE && !read_book(others[0], &book))
+        status = REFUSED;
+    if (status == REFUSED) {
+        free(script.at);
+        return REFUSED;
+    }
+    refusal = run_events(&book, &state, script.at, script.length, stop_address, &reason, &done);
+    status = refusal == GALHOVEIA_DONE ? DONE : REFUSED;
+    if (refusal == GALHOVEIA_DONE || refusal == GALHOVEIA_UNLISTED_WORD) {
+        if (save != NULL) {
+            write_state(save, &state, force);
+            printf("state saved in %s\n", save);
+        }
+        if (show && !(show_picture(&book, &state, others[0], look) && show_level(&book, &state, others[0])))
+            status = REFUSED;
+    }
+    free(script.at);
+    free(book.file.at);
+    return status;
+}
+
+static enum status work_level(const struct command *command, int count, char **words)
+{
+    const char *others[2];
+    const struct option known[] = {{NULL, NULL, NULL}};
+    struct book book;
+    struct state state;
+    bool done;
+
+    take_words(command, count, words, known, others, 2);
+    read_state(others[1], &state);
+    if (!read_book(others[0], &book))
+        return REFUSED;
+    done = show_level(&book, &state, others[1]);
+    free(book.file.at);
+    return done ? DONE : REFUSED;
+}
+
+static enum status work_picture(const struct command *command, int count, char **words)
+{
+    const char *others[2], *digits = "0", *columns = NULL;
+    bool raw = false, done;
+    const struct option known[] = {
+        {"--raw", NULL, &raw}, {"--digits", &digits, NULL}, {"--columns", &columns, NULL}, {NULL, NULL, NULL}};
+    struct look look;
+    struct book book;
+    struct state state;
+
+    take_words(command, count, words, known, others, 2);
+    look = look_from(command, raw, digits, columns);
+    read_state(others[1], &state);
+    if (!read_book(others[0], &book))
+        return REFUSED;
+    done = show_picture(&book, &state, others[1], look);
+    free(book.file.at);
+    return done ? DONE : REFUSED;
+}
+
+static enum status work_writers(const struct command *command, int count, char **words)
+{
+    const char *others[2];
+    bool level = false, done;
+    const struct option known[] = {{"--level", NULL, &level}, {NULL, NULL, NULL}};
+    uint32_t cell = 0;
+    struct book book;
+
+    for (int at = 0; at < count; at++)
+        level = level || strcmp(words[at], "--level") == 0;
+    take_words(command, count, words, known, others, level ? 1 : 2);
+    if (!level)
+        cell = hex_from(command, others[1]);
+    if (!read_book(others[0], &book))
+        return REFUSED;
+    done = level ? show_level_writers(&book) : show_writers(&book, cell, "");
+    free(book.file.at);
+    return done ? DONE : REFUSED;
+}
+
+static enum status work_book_check(const struct command *command, int count, char **words)
+{
+    const char *path[1];
+    const struct option known[] = {{NULL, NULL, NULL}};
+    struct book book;
+
+    take_words(command, count, words, known, path, 1);
+    if (!read_book(path[0], &book))
+        return REFUSED;
+    show_book(path[0], &book);
+    free(book.file.at);
+    return DONE;
+}
+
+static struct bytes read_body(const char *path, struct bytes (*from_text)(const char *, const char *))
+{
+    size_t length = strlen(path);
+
+    if (length >= 4 && strcmp(path + length - 4, ".bin") == 0)
+        return read_file(path, FILE_MOST);
+    return read_text(path, FILE_MOST, from_text);
+}
+
+static enum status work_book_make(const struct command *command, int count, char **words)
+{
+    const char *others[4];
+    bool force = false;
+    const struct option known[] = {{"--force", NULL, &force}, {NULL, NULL, NULL}};
+    uint8_t book[GALHOVEIA_BOOK_BYTES_MOST];
+    struct bytes program, wiring, level;
+    uint64_t length = 0, value = 0;
+    uint32_t refusal;
+
+    take_words(command, count, words, known, others, 4);
+    may_write(others[0], force);
+    program = read_body(others[1], program_from_text);
+    wiring = read_body(others[2], wiring_from_text);
+    level = read_body(others[3], level_from_text);
+    refusal = galhoveia_book_write(program.at, program.length, wiring.at, wiring.length, level.at, level.length, book,
+                                   sizeof book, &length, &value);
+    free(program.at);
+    free(wiring.at);
+    free(level.at);
+    if (refusal != GALHOVEIA_DONE) {
+        say_refusal(others[0], refusal, value);
+        return REFUSED;
+    }
+    write_file(others[0], book, (size_t)length, force);
+    printf("%s: a book of %llu bytes\n", others[0], (unsigned long long)length);
+    return DONE;
+}
+
+/* ---- The demonstration ---- */
+
+/* Where dispatcher.asm waits for the next call (its label asleep), and how many digits its wiring begins with. */
+enum { DEMO_STOP = 0x010, DEMO_DIGITS = 2 };
+
+static char *path_in(const char *folder, const char *file)
+{
+    size_t length = strlen(folder) + 1 + strlen(file) + 1;
+    char *path = take_memory(length, 1);
+
+    snprintf(path, length, "%s/%s", folder, file);
+    return path;
+}
+
+static bool demo_run(const struct book *book, struct bytes script)
+{
+    const struct look look = {false, DEMO_DIGITS, COLUMNS_USUAL};
+    uint32_t reason = GALHOVEIA_AT_ADDRESS;
+    struct state state;
+    size_t at = 0;
+
+    if (!make_fresh(&state, 0))
+        return false;
+    while (reason == GALHOVEIA_AT_ADDRESS) {
+        uint64_t done;
+
+        if (run_events(book, &state, script.at + at, script.length - at, DEMO_STOP, &reason, &done) != GALHOVEIA_DONE)
+            return false;
+        at += (size_t)done;
+        if (reason != GALHOVEIA_AT_ADDRESS)
+            break;
+        if (!show_picture(book, &state, "the picture", look) || !show_level(book, &state, "the level"))
+            return false;
+        printf("\n");
+    }
+    return true;
+}
+
+static enum status work_demo(const struct command *command, int count, char **words)
+{
+    const char *folder[1] = {"examples"};
+    const struct option known[] = {{NULL, NULL, NULL}};
+    struct book book;
+    struct bytes script;
+    char *book_path, *script_path;
+    bool done;
+
+    if (count > 0)
+        take_words(command, count, words, known, folder, 1);
+    book_path = path_in(folder[0], "dispatcher.book");
+    script_path = path_in(folder[0], "dispatcher.script");
+    script = read_text(script_path, SCRIPT_FILE_MOST, script_from_text);
+    done = read_book(book_path, &book);
+    if (done) {
+        printf("1. The book\n\n");
+        show_book(book_path, &book);
+        printf("\n2. The script %s, shown whenever the program waits for a call (stop at $%03X):\n   once it is ready, "
+               "then after a call below the ground stop, then after one above it\n\n", script_path, DEMO_STOP);
+        done = demo_run(&book, script);
+        printf("\n3. Who can write the level cells: these instructions and no others\n\n");
+        done = done && show_level_writers(&book);
+        free(book.file.at);
+    }
+    free(script.at);
+    free(book_path);
+    free(script_path);
+    return done ? DONE : REFUSED;
+}
+
+/* ---- Help ---- */
+
+static const char *const run_texts[] = {script_help, NULL};
+static const char *const make_texts[] = {program_help, wiring_help, level_help, NULL};
+
+static const char state_help[] = "A state file is the memory (1,024 bytes), then the record (37 bytes).\n";
+
+static const struct command commands[] = {
+    {"demo", "demo [FOLDER]", "runs the example dispatcher and shows what the desk can do",
+     "FOLDER holds dispatcher.book and dispatcher.script; it is examples if not given.\n", NULL, work_demo},
+    {"fresh", "fresh STATE [--options N] [--force]", "makes the state of a chip just switched on",
+     "N is 0 to 7: 1 watchdog on, 2 bonding bit BD0, 4 bonding bit BD1, added up; 0 if not given.\n"
+     "A state file is the memory (1,024 bytes), then the record (37 bytes).\n", NULL, work_fresh},
+    {"run", "run BOOK SCRIPT [--stop HEX] [--state FILE | --options N] [--save FILE] [--force]\n"
+            "                [--raw-script] [--show [--digits N] [--columns N]]",
+     "lets a script's events happen to a book's chip",
+     "The chip is fresh, or as in the state FILE. --stop ends the run after a cycle that leaves PC at HEX. --save writes\n"
+     "the state after the run, also after one that stopped before a word that is no instruction (refusal 6). --show\n"
+     "shows picture and level after it, drawn as desk picture --help tells.\n", run_texts, work_run},
+    {"level", "level BOOK STATE", "tells the level that a state's panel stands at", state_help, NULL, work_level},
+    {"picture", "picture BOOK STATE [--digits N] [--columns N] [--raw]", "draws what a state's panel shows",
+     "# is lit, . is dark, in the order of the wiring. With --digits N the first 7N elements are drawn as N\n"
+     "seven-segment digits, each wired in the order a to g. --columns N puts N elements in a row (16 if not given).\n"
+     "--raw writes one byte, 0 or 1, for each element instead.\n", NULL, work_picture},
+    {"writers", "writers BOOK CELL | writers BOOK --level", "lists every instruction that can change a cell",
+     "CELL is in hex: a data, display or scan cell. --level asks for both digits of the level.\n", NULL, work_writers},
+    {"book check", "book check BOOK", "judges a book and tells what is in it", NULL, NULL, work_book_check},
+    {"book make", "book make BOOK PROGRAM WIRING LEVEL [--force]", "makes a book of its three bodies",
+     "Each body is a text as below, or, where the file's name ends in .bin, the body's bytes.\n", make_texts,
+     work_book_make},
+};
+
+enum { COMMANDS = sizeof commands / sizeof commands[0] };
+
+static void print_overview(FILE *to)
+{
+    fprintf(to, "desk works on panel books of the SH67P54. Its commands:\n\n");
+    for (int at = 0; at < COMMANDS; at++)
+        fprintf(to, "  desk %s\n      %s\n", commands[at].usage, commands[at].about);
+    fprintf(to, "\ndesk COMMAND --help tells more of one. No file is written over unless --force is given.\n"
+                "Exit status: 0 done; 1 refused by the library, which is said with its number and value; 2 wrong use,\n"
+                "or a file that cannot be read, is in the way, or is not what it should be.\n");
+}
+
+static void print_help(const struct command *command)
+{
+    printf("usage: desk %s\n\n%c%s.\n", command->usage, command->about[0] - 'a' + 'A', command->about + 1);
+    if (command->help != NULL)
+        printf("%s", command->help);
+    for (int at = 0; command->texts != NULL && command->texts[at] != NULL; at++)
+        printf("\n%s", command->texts[at]);
+}
+
+/* Answers how many words of the command line the command's name takes, 0 if they do not name it. */
+static int words_naming(const struct command *command, int argc, char **argv)
+{
+    char two_words[64];
+
+    if (argc > 1 && strcmp(argv[1], command->name) == 0)
+        return 1;
+    if (argc > 2 && snprintf(two_words, sizeof two_words, "%s %s", argv[1], argv[2]) < (int)sizeof two_words
+        && strcmp(two_words, command->name) == 0)
+        return 2;
+    return 0;
+}
+
+static enum status finish(enum status status)
+{
+    if (fflush(stdout) != 0 || ferror(stdout)) {
+        fprintf(stderr, "desk: the output could not be written whole\n");
+        return WRONG_USE;
+    }
+    return status;
+}
+
+static bool asks_for_help(const char *word)
+{
+    return strcmp(word, "--help") == 0 || strcmp(word, "-h") == 0;
+}
+
+int main(int argc, char **argv)
+{
+    if (argc > 1 && (asks_for_help(argv[1]) || (argc == 3 && strcmp(argv[1], "book") == 0 && asks_for_help(argv[2])))) {
+        print_overview(stdout);
+        return finish(DONE);
+    }
+    for (int at = 0; at < COMMANDS; at++) {
+        int taken = words_naming(&commands[at], argc, argv);
+
+        if (taken == 0)
+            continue;
+        for (int word = 1 + taken; word < argc; word++)
+            if (asks_for_help(argv[word])) {
+                print_help(&commands[at]);
+                return finish(DONE);
+            }
+        return finish(commands[at].work(&commands[at], argc - 1 - taken, argv + 1 + taken));
+    }
+    if (argc > 1)
+        fprintf(stderr, "desk: no such command: %s%s%s\n", argv[1], argc > 2 ? " " : "", argc > 2 ? argv[2] : "");
+    print_overview(stderr);
+    return WRONG_USE;
+}

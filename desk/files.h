@@ -1,0 +1,33 @@
+/* Files read whole, and written whole or not at all. What goes wrong with a file is said, and the command ends with
+   the status of wrong use. */
+#ifndef DESK_FILES_H
+#define DESK_FILES_H
+
+#include <stdbool.h>
+#include <stddef.h>
+#include <stdint.h>
+
+enum status { DONE = 0, REFUSED = 1, WRONG_USE = 2 };
+
+struct bytes {
+    uint8_t *at;
+    size_t length;
+};
+
+/* Says what is wrong and ends the command with WRONG_USE. */
+_Noreturn void fail(const char *format, ...) __attribute__((format(printf, 1, 2)));
+
+/* Memory for so many things, or the command ends. */
+void *take_memory(size_t count, size_t size);
+
+/* The caller frees what is read. A file of more than `most` bytes is wrong use; a 0 stands after the last byte, so
+   that a text can be read as a string. */
+struct bytes read_file(const char *path, size_t most);
+
+/* Ends the command if the file may not be written: it exists, and `force` is false. Asked before any work is done. */
+void may_write(const char *path, bool force);
+
+/* Writes beside the file first and then gives it its name, so that no half of it is ever seen under that name. */
+void write_file(const char *path, const uint8_t *bytes, size_t length, bool force);
+
+#endif

@@ -1,0 +1,184 @@
+/* Galhoveia: a proved emulator of the 4-bit controller SH67P54, for C and C++.
+
+   Link with target/staticlib/libhost.a, which `make archive` builds. The library keeps nothing between calls: the
+   chip's program, its memory and its registers stay with the caller and are lent to each call as bytes.
+
+     program   8,192 bytes: 4,096 words of 16 bits, high byte first; word n is at bytes 2n and 2n + 1
+     memory    1,024 bytes: one nibble of the chip's RAM in each, at the chip's own addresses $000 to $3FF
+     record    37 bytes: the registers that are not in RAM, as listed below
+     script    any number of bytes: what happens to the chip, one event in each
+     book      a file of the records desk: a program, the wiring of a panel, and where the panel keeps its level
+
+   Every call answers 0 (done) or the number of a refusal, and always writes *value: the number that goes with the
+   refusal, or 0. A refusal leaves every lent byte and every other out value as it was, with one exception, told at
+   galhoveia_run. No bytes, lengths or numbers are forbidden: what a call cannot work with, it refuses.
+
+   What the caller must keep:
+     - A pointer is valid for the length given beside it; an out pointer (uint64_t *value and the like) is valid for
+       one number of its type and aligned for it. Not even a length of 0 or a refusal makes a null pointer right.
+     - Nothing that is lent to one call overlaps: neither two areas, nor an area and an out value, nor two out values.
+     - While a call works, no other thread touches what is lent to it. Calls on separate areas may run side by side.
+
+   An example: a fresh chip with the watchdog off takes a hundred cycles, and the level on its panel is read.
+
+     static uint8_t program[GALHOVEIA_PROGRAM_BYTES];
+     static const uint8_t level_body[5] = {0x00, 0x20, 0x00, 0x21, 2};
+     static const uint8_t script[100] = {GALHOVEIA_EVENT_CYCLE};
+     uint8_t memory[GALHOVEIA_MEMORY_BYTES];
+     uint8_t record[GALHOVEIA_RECORD_BYTES];
+     uint64_t value, events = 0;
+     uint32_t refusal, reason = GALHOVEIA_AT_END;
+     int32_t level = 0;
+
+     refusal = galhoveia_fresh(memory, sizeof memory, record, sizeof record, 0, &value);
+     if (refusal == GALHOVEIA_DONE)
+         refusal = galhoveia_run(program, sizeof program, memory, sizeof memory, record, sizeof record,
+                                 script, sizeof script, GALHOVEIA_NO_STOP, &reason, &events, &value);
+     if (refusal == GALHOVEIA_DONE)
+         refusal = galhoveia_level(memory, sizeof memory, level_body, sizeof level_body, &level, &value);
+     if (refusal == GALHOVEIA_DONE)
+         printf("level %ld after %llu events\n", (long)level, (unsigned long long)events);
+     else
+         printf("refused by %lu with %llu\n", (unsigned long)refusal, (unsigned long long)value);
+*/
+#ifndef GALHOVEIA_H
+#define GALHOVEIA_H
+
+#include <stddef.h>
+#include <stdint.h>
+
+#ifdef __cplusplus
+extern "C" {
+#endif
+
+#define GALHOVEIA_WORDS          4096
+#define GALHOVEIA_PROGRAM_BYTES  8192
+#define GALHOVEIA_MEMORY_BYTES   1024
+#define GALHOVEIA_RECORD_BYTES   37
+#define GALHOVEIA_LEVELS         8    /* stack entries */
+#define GALHOVEIA_LEVEL_BYTES    5    /* a book's level body */
+#define GALHOVEIA_ELEMENT_BYTES  3    /* one element of a book's wiring body */
+#define GALHOVEIA_ELEMENTS_MOST  240
+#define GALHOVEIA_BOOK_BYTES_MOST 8933 /* 16 of contents, the program, 240 elements, the level body */
+
+/* The answer of every call. Where several refusals apply, the lowest number is told, but 7 only where nothing else
+   applies, and in galhoveia_level 10 and 11 come before 9. */
+enum {
+    GALHOVEIA_DONE = 0,
+    GALHOVEIA_PROGRAM_LENGTH = 1, /* the program is not 8,192 bytes long; value: the length lent, in bytes */
+    GALHOVEIA_MEMORY_LENGTH = 2,  /* the memory is not 1,024 bytes long; value: the length lent */
+    GALHOVEIA_MEMORY_CELL = 3,    /* a memory byte has a bit that its cell cannot hold; value: the lowest such address */
+    GALHOVEIA_RECORD = 4,         /* the record is not 37 bytes long, or breaks a rule listed below; value: 0 */
+    GALHOVEIA_UNKNOWN_EVENT = 5,  /* an event byte means nothing; value: the first such place, counted from 0 */
+    GALHOVEIA_UNLISTED_WORD = 6,  /* a cycle would execute a word that is no instruction; value: its program address */
+    GALHOVEIA_ROOM = 7,           /* the area for the result is too small; value: the bytes needed */
+    GALHOVEIA_ASKED_CELL = 8,     /* the cell asked about is no data, display or scan cell; value: that cell */
+    GALHOVEIA_DIGIT = 9,          /* a digit of the level is above 7; value: 0 the high digit, 1 the low one */
+    GALHOVEIA_LENGTH = 10,        /* a book's contents or length, or the length of a body, is wrong; value: 0 */
+    GALHOVEIA_BODY = 11,          /* a body holds a value out of its rule; value: the kind, 2 wiring, 3 level */
+    GALHOVEIA_OPTIONS = 12        /* options above 7 asked of a fresh machine; value: the options */
+};
+
+/* The memory. Cells that exist: $000-$01F registers, $020-$16F data, $300-$348 display, $358-$36D scan, $370-$377
+   sound. Every other byte is 0, and so are $004, $005, $006, $00F and $01F, which keep nothing in RAM. No byte is
+   above 15; bit 3 of $007, $011 and $012 and bit 2 of $014 are 0. */
+
+/* The record: where each field begins, and its rule. Fields of two bytes have the high byte first. */
+enum {
+    GALHOVEIA_RECORD_PC = 0,               /* 2 bytes, 0 to 4095: the program counter */
+    GALHOVEIA_RECORD_AC = 2,               /* 0 to 15: the accumulator */
+    GALHOVEIA_RECORD_CY = 3,               /* 0 or 1: the carry flag */
+    GALHOVEIA_RECORD_MODE = 4,             /* 0 running, 1 asleep in HALT, 2 asleep in STOP */
+    GALHOVEIA_RECORD_STACK = 5,            /* 8 entries of 2 bytes, newest first; each 4096 x carry + program counter */
+    GALHOVEIA_RECORD_TIMER0_PRESCALER = 21, /* 2 bytes, below the ratio that $002 bits 2-0 choose: 2048, 512, 128, 32,
+                                              8, 4, 2; 0 where they are 7 (pin counting) */
+    GALHOVEIA_RECORD_TIMER0_COUNTER = 23,  /* 0 to 255 */
+    GALHOVEIA_RECORD_TIMER0_LOAD = 24,     /* 0 to 255 */
+    GALHOVEIA_RECORD_BASE_PRESCALER = 25,  /* below the ratio that $003 bits 1-0 choose: 1, 4, 8, 16 */
+    GALHOVEIA_RECORD_BASE_COUNTER = 26,    /* 0 to 255. The base timer is on when $003 bit 3 is 1 and bit 2 is 0; off,
+                                              prescaler and counter are 0 */
+    GALHOVEIA_RECORD_WATCHDOG = 27,        /* 2 bytes, 1 up to the period that $01E bits 2-0 choose: 4096, 1024, 256,
+                                              128, 64, 16, 4, 1 */
+    GALHOVEIA_RECORD_PINS = 29,            /* 4 bytes, 0 to 15 each: what stands at the pins of ports A, B, C, D */
+    GALHOVEIA_RECORD_OPTIONS = 33,         /* 0 to 7: bit 0 watchdog on, bits 1 and 2 the bonding bits, which bits 0 and
+                                              1 of memory cell $00C repeat */
+    GALHOVEIA_RECORD_PENDING = 34,         /* 0 or 1: a read of program data is under way */
+    GALHOVEIA_RECORD_PENDING_ADDRESS = 35  /* 2 bytes, 0 to 4095: its address; 0 when none is under way */
+};
+
+enum { GALHOVEIA_RUNNING = 0, GALHOVEIA_HALT = 1, GALHOVEIA_STOP = 2 };
+
+/* Events. A port's four pins become the low nibble of its byte: $2A sets port B to 1010. Any other byte is unknown. */
+enum {
+    GALHOVEIA_EVENT_CYCLE = 0x00,    /* one instruction cycle */
+    GALHOVEIA_EVENT_BASE = 0x01,     /* one pulse of the base timer's clock */
+    GALHOVEIA_EVENT_WATCHDOG = 0x02, /* one millisecond for the watchdog */
+    GALHOVEIA_EVENT_RESET = 0x03,    /* the reset pin */
+    GALHOVEIA_EVENT_PINS_A = 0x10,
+    GALHOVEIA_EVENT_PINS_B = 0x20,
+    GALHOVEIA_EVENT_PINS_C = 0x30,
+    GALHOVEIA_EVENT_PINS_D = 0x40
+};
+
+/* Why a run stopped. */
+enum { GALHOVEIA_AT_ADDRESS = 0, GALHOVEIA_AT_UNLISTED = 1, GALHOVEIA_AT_END = 2 };
+
+#define GALHOVEIA_NO_STOP 4096 /* this stop address and every higher one: none */
+
+/* Makes a chip as it is after power-on: memory and record are written whole, whatever they held. options: bit 0
+   watchdog on, bits 1 and 2 the bonding bits. Can answer 2, 4 (the record's length), 12. */
+uint32_t galhoveia_fresh(uint8_t *memory, size_t memory_len, uint8_t *record, size_t record_len,
+                         uint32_t options, uint64_t *value);
+
+/* Applies one event. Can answer 1 to 6. */
+uint32_t galhoveia_step(const uint8_t *program, size_t program_len, uint8_t *memory, size_t memory_len,
+                        uint8_t *record, size_t record_len, uint8_t event, uint64_t *value);
+
+/* Applies a script's events in order, and stops at the first of these, the earlier named if two hold: after a cycle
+   that leaves the program counter at `stop`; before a cycle that would execute a word that is no instruction; at the
+   script's end. *reason tells which (GALHOVEIA_AT_...), *events how many events were done. Can answer 1 to 6. The
+   whole script is judged before anything moves (5). The exception among the refusals is 6 here: memory and record
+   then hold the state after the events that were done, *reason is GALHOVEIA_AT_UNLISTED and *events is written. */
+uint32_t galhoveia_run(const uint8_t *program, size_t program_len, uint8_t *memory, size_t memory_len,
+                       uint8_t *record, size_t record_len, const uint8_t *script, size_t script_len,
+                       uint32_t stop, uint32_t *reason, uint64_t *events, uint64_t *value);
+
+/* Lists the addresses of all instructions that can change a cell: exactly those for which some state of the chip
+   exists in which executing them changes it, those that reach it through the pointer register $00F among them.
+   `addresses` gets two bytes for each, high byte first, ascending; *count is the bytes written, and bytes beyond them
+   stay. 8,192 bytes are always room enough. Can answer 1, 7, 8. */
+uint32_t galhoveia_list(const uint8_t *program, size_t program_len, uint32_t cell,
+                        uint8_t *addresses, size_t room, uint64_t *count, uint64_t *value);
+
+/* Reads the level that the panel stands at: 8 x high digit + low digit - ground, from -63 to 63, basements negative.
+   `body` is a book's level body of 5 bytes: the cell of the high digit (2 bytes, high byte first), the cell of the low
+   digit (2 bytes), the ground code 0 to 63. The cells are different, each a data, display or scan cell. Can answer
+   2, 3, 9, 10, 11. */
+uint32_t galhoveia_level(const uint8_t *memory, size_t memory_len, const uint8_t *body, size_t body_len,
+                         int32_t *level, uint64_t *value);
+
+/* Tells what the panel shows: one byte for each element of the wiring, 1 lit, 0 dark; all dark while the display is
+   off ($007 bit 2) or the chip is in STOP. `body` is a book's wiring body, 1 to 240 elements of 3 bytes: a display
+   cell $300-$348 (2 bytes, high byte first) and a bit 0 to 3. *count is the number of bytes written, and bytes beyond
+   them stay. Can answer 2, 3, 4, 7, 10, 11. */
+uint32_t galhoveia_picture(const uint8_t *memory, size_t memory_len, const uint8_t *record, size_t record_len,
+                           const uint8_t *body, size_t body_len, uint8_t *picture, size_t room,
+                           uint64_t *count, uint64_t *value);
+
+/* Judges a book and tells where its bodies lie: three offsets into the book and three lengths, each out value for
+   itself. Can answer 10, 11. */
+uint32_t galhoveia_book_read(const uint8_t *book, size_t book_len, uint64_t *program, uint64_t *program_len,
+                             uint64_t *wiring, uint64_t *wiring_len, uint64_t *level, uint64_t *level_len,
+                             uint64_t *value);
+
+/* Puts three bodies together into a book; *count is its length, and bytes beyond it stay. A program of another length
+   than 8,192 is 10 here. Can answer 7, 10, 11. */
+uint32_t galhoveia_book_write(const uint8_t *program, size_t program_len, const uint8_t *wiring, size_t wiring_len,
+                              const uint8_t *level, size_t level_len, uint8_t *book, size_t room,
+                              uint64_t *count, uint64_t *value);
+
+#ifdef __cplusplus
+}
+#endif
+
+#endif

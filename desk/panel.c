@@ -1,0 +1,169 @@
+/* Books and machine states: read from files, written to them, and shown. */
+#include "panel.h"
+
+#include "drawing.h"
+#include "listing.h"
+#include "refusal.h"
+
+#include <stdio.h>
+#include <stdlib.h>
+#include <string.h>
+
+enum { STATE_BYTES = GALHOVEIA_MEMORY_BYTES + GALHOVEIA_RECORD_BYTES, NOP = 0xFFFF };
+
+/* ---- Files ---- */
+
+void read_state(const char *path, struct state *state)
+{
+    struct bytes file = read_file(path, FILE_MOST);
+
+    if (file.length != STATE_BYTES)
+        fail("%s is no state: it has %zu bytes, and a state has %d (%d of memory, %d of record)", path, file.length,
+             STATE_BYTES, GALHOVEIA_MEMORY_BYTES, GALHOVEIA_RECORD_BYTES);
+    memcpy(state->memory, file.at, sizeof state->memory);
+    memcpy(state->record, file.at + sizeof state->memory, sizeof state->record);
+    free(file.at);
+}
+
+void write_state(const char *path, const struct state *state, bool force)
+{
+    uint8_t bytes[STATE_BYTES];
+
+    memcpy(bytes, state->memory, sizeof state->memory);
+    memcpy(bytes + sizeof state->memory, state->record, sizeof state->record);
+    write_file(path, bytes, sizeof bytes, force);
+}
+
+bool read_book(const char *path, struct book *book)
+{
+    uint64_t program = 0, program_len = 0, wiring = 0, wiring_len = 0, level = 0, level_len = 0, value = 0;
+    uint32_t refusal;
+
+    book->file = read_file(path, FILE_MOST);
+    refusal = galhoveia_book_read(book->file.at, book->file.length, &program, &program_len, &wiring, &wiring_len, &level,
+                                  &level_len, &value);
+    if (refusal != GALHOVEIA_DONE) {
+        say_refusal(path, refusal, value);
+        free(book->file.at);
+        return false;
+    }
+    book->program = (struct bytes){book->file.at + program, (size_t)program_len};
+    book->wiring = (struct bytes){book->file.at + wiring, (size_t)wiring_len};
+    book->level = (struct bytes){book->file.at + level, (size_t)level_len};
+    return true;
+}
+
+bool make_fresh(struct state *state, uint32_t options)
+{
+    uint64_t value = 0;
+    uint32_t refusal = galhoveia_fresh(state->memory, sizeof state->memory, state->record, sizeof state->record,
+                                       options, &value);
+
+    if (refusal != GALHOVEIA_DONE)
+        say_refusal("a fresh machine", refusal, value);
+    return refusal == GALHOVEIA_DONE;
+}
+
+/* ---- What is shown ---- */
+
+static unsigned two(const uint8_t *bytes)
+{
+    return (unsigned)bytes[0] << 8 | bytes[1];
+}
+
+bool show_level(const struct book *book, const struct state *state, const char *state_name)
+{
+    int32_t level = 0;
+    uint64_t value = 0;
+    uint32_t refusal = galhoveia_level(state->memory, sizeof state->memory, book->level.at, book->level.length, &level,
+                                       &value);
+    unsigned high, low;
+
+    if (refusal != GALHOVEIA_DONE) {
+        say_refusal(state_name, refusal, value);
+        return false;
+    }
+    high = state->memory[two(book->level.at)];
+    low = state->memory[two(book->level.at + 2)];
+    printf("level %ld  (digits %u,%u; ground code %u)\n", (long)level, high, low, book->level.at[4]);
+    return true;
+}
+
+bool show_picture(const struct book *book, const struct state *state, const char *state_name, struct look look)
+{
+    uint8_t picture[GALHOVEIA_ELEMENTS_MOST];
+    uint64_t count = 0, value = 0;
+    uint32_t refusal = galhoveia_picture(state->memory, sizeof state->memory, state->record, sizeof state->record,
+                                         book->wiring.at, book->wiring.length, picture, sizeof picture, &count, &value);
+
+    if (refusal != GALHOVEIA_DONE) {
+        say_refusal(state_name, refusal, value);
+        return false;
+    }
+    if (look.raw) {
+        fwrite(picture, 1, (size_t)count, stdout);
+        return true;
+    }
+    if (7 * (uint64_t)look.digits > count)
+        fail("%lu digits need %lu elements, and the wiring has %llu", (unsigned long)look.digits,
+             7 * (unsigned long)look.digits, (unsigned long long)count);
+    draw_picture(picture, (size_t)count, look.digits, look.columns);
+    return true;
+}
+
+void show_registers(const struct state *state)
+{
+    static const char *const modes[] = {"running", "asleep in HALT", "asleep in STOP"};
+    const uint8_t *record = state->record;
+
+    printf("PC $%03X, AC %u, CY %u, %s\n", two(record + GALHOVEIA_RECORD_PC), record[GALHOVEIA_RECORD_AC],
+           record[GALHOVEIA_RECORD_CY], modes[record[GALHOVEIA_RECORD_MODE]]);
+}
+
+bool show_writers(const struct book *book, uint32_t cell, const char *meaning)
+{
+    static uint8_t addresses[GALHOVEIA_PROGRAM_BYTES];
+    uint64_t count = 0, value = 0;
+    uint32_t refusal = galhoveia_list(book->program.at, book->program.length, cell, addresses, sizeof addresses,
+                                      &count, &value);
+
+    if (refusal != GALHOVEIA_DONE) {
+        say_refusal("the list of writers", refusal, value);
+        return false;
+    }
+    printf("cell $%03lX%s: %llu instruction%s can change it\n", (unsigned long)cell, meaning,
+           (unsigned long long)(count / 2), count == 2 ? "" : "s");
+    for (uint64_t at = 0; at < count; at += 2) {
+        unsigned address = two(addresses + at);
+        uint16_t word = (uint16_t)two(book->program.at + 2 * address);
+        char text[LISTING_ROOM];
+
+        instruction_text(word, text);
+        printf("  $%03X  %04X  %s%s\n", address, word, text,
+               goes_through_pointer(word) ? "  ; wherever the pointer $012, $011, $010 stands" : "");
+    }
+    return true;
+}
+
+bool show_level_writers(const struct book *book)
+{
+    return show_writers(book, two(book->level.at), " (high digit of the level)")
+           && show_writers(book, two(book->level.at + 2), " (low digit of the level)");
+}
+
+void show_book(const char *path, const struct book *book)
+{
+    unsigned unlisted = 0, blank = 0;
+
+    for (unsigned address = 0; address < GALHOVEIA_WORDS; address++) {
+        uint16_t word = (uint16_t)two(book->program.at + 2 * address);
+
+        unlisted += form_of(word) == NULL;
+        blank += word == NOP;
+    }
+    printf("%s is a good book of %zu bytes\n", path, book->file.length);
+    printf("  program: %d words, of these %u NOP and %u that are no instruction\n", GALHOVEIA_WORDS, blank, unlisted);
+    printf("  wiring: %zu elements\n", book->wiring.length / GALHOVEIA_ELEMENT_BYTES);
+    printf("  level: high digit in $%03X, low digit in $%03X, ground code %u\n", two(book->level.at),
+           two(book->level.at + 2), book->level.at[4]);
+}

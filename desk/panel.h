@@ -1,0 +1,41 @@
+/* Books and machine states: read from files, written to them, and shown. */
+#ifndef DESK_PANEL_H
+#define DESK_PANEL_H
+
+#include "files.h"
+#include "galhoveia.h"
+
+enum { FILE_MOST = 1 << 20, SCRIPT_FILE_MOST = 1 << 30 };
+
+struct state {
+    uint8_t memory[GALHOVEIA_MEMORY_BYTES];
+    uint8_t record[GALHOVEIA_RECORD_BYTES];
+};
+
+void read_state(const char *path, struct state *state);
+void write_state(const char *path, const struct state *state, bool force);
+
+struct book {
+    struct bytes file;
+    struct bytes program, wiring, level; /* within the file */
+};
+
+/* Each of these answers whether the library did it; a refusal is said. The caller frees the book's file. */
+bool read_book(const char *path, struct book *book);
+bool make_fresh(struct state *state, uint32_t options);
+
+/* How a picture is drawn. */
+struct look {
+    bool raw;
+    uint32_t digits, columns;
+};
+
+bool show_picture(const struct book *book, const struct state *state, const char *state_name, struct look look);
+bool show_level(const struct book *book, const struct state *state, const char *state_name);
+bool show_writers(const struct book *book, uint32_t cell, const char *meaning);
+bool show_level_writers(const struct book *book);
+
+void show_book(const char *path, const struct book *book);
+void show_registers(const struct state *state);
+
+#endif

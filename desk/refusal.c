@@ -1,0 +1,60 @@
+/* A refusal in words, with its number and value. */
+#include "refusal.h"
+
+#include "galhoveia.h"
+
+#include <stdio.h>
+
+void say_refusal(const char *what, uint32_t number, uint64_t value)
+{
+    unsigned long long with = value;
+
+    fflush(stdout);
+    fprintf(stderr, "desk: %s: refused by %lu, value %llu: ", what, (unsigned long)number, with);
+    switch (number) {
+    case GALHOVEIA_PROGRAM_LENGTH:
+        fprintf(stderr, "the program has %llu bytes, not %d", with, GALHOVEIA_PROGRAM_BYTES);
+        break;
+    case GALHOVEIA_MEMORY_LENGTH:
+        fprintf(stderr, "the memory has %llu bytes, not %d", with, GALHOVEIA_MEMORY_BYTES);
+        break;
+    case GALHOVEIA_MEMORY_CELL:
+        fprintf(stderr, "memory cell $%03llX holds what this cell cannot hold", with);
+        break;
+    case GALHOVEIA_RECORD:
+        fprintf(stderr, "the machine record is not well formed, or does not fit the memory");
+        break;
+    case GALHOVEIA_UNKNOWN_EVENT:
+        fprintf(stderr, "event %llu of the script, counted from 0, is unknown", with);
+        break;
+    case GALHOVEIA_UNLISTED_WORD:
+        fprintf(stderr, "the cycle would execute the word at $%03llX, which is no instruction", with);
+        break;
+    case GALHOVEIA_ROOM:
+        fprintf(stderr, "too little room, %llu bytes are needed", with);
+        break;
+    case GALHOVEIA_ASKED_CELL:
+        fprintf(stderr, "$%03llX is no data cell ($020-$16F), display cell ($300-$348) or scan cell ($358-$36D)", with);
+        break;
+    case GALHOVEIA_DIGIT:
+        fprintf(stderr, "the level's %s digit is above 7", value == 0 ? "high" : "low");
+        break;
+    case GALHOVEIA_LENGTH:
+        fprintf(stderr, "the book's contents, its length, or the length of a body is wrong");
+        break;
+    case GALHOVEIA_BODY:
+        if (value == 2)
+            fprintf(stderr, "the wiring (kind 2) names a cell outside $300-$348 or a bit above 3");
+        else
+            fprintf(stderr, "the level body (kind %llu) names a cell that is no data, display or scan cell, the same "
+                            "cell twice, or a ground code above 63", with);
+        break;
+    case GALHOVEIA_OPTIONS:
+        fprintf(stderr, "options are 0 to 7");
+        break;
+    default:
+        fprintf(stderr, "a reason this command does not know");
+        break;
+    }
+    fprintf(stderr, "\n");
+}

@@ -1,0 +1,20 @@
+/* The desk's text forms: a script's events, a program in assembly, a wiring, a level body. Each reader turns a file's
+   text into the bytes that the library takes, or says the line that it cannot read and ends the command. What the
+   bytes mean, and whether they are good, is left to the library. */
+#ifndef DESK_TEXTS_H
+#define DESK_TEXTS_H
+
+#include "files.h"
+
+struct bytes script_from_text(const char *path, const char *text);
+struct bytes program_from_text(const char *path, const char *text);
+struct bytes wiring_from_text(const char *path, const char *text);
+struct bytes level_from_text(const char *path, const char *text);
+
+/* A number as it is written in all of these: 18, $12 or 0x12. Answers whether the text, up to its end, is one that
+   is at most `most`. */
+bool number_from(const char *text, size_t length, unsigned long long most, unsigned long long *number);
+
+extern const char script_help[], program_help[], wiring_help[], level_help[];
+
+#endif

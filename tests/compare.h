@@ -1,0 +1,20 @@
+/* The parts of the comparison, in the order in which they run. */
+#ifndef TESTS_COMPARE_H
+#define TESTS_COMPARE_H
+
+#include <stdint.h>
+
+struct plan {
+    uint64_t events;      /* at least so many in random runs */
+    unsigned machines;    /* for each of the 65,536 words */
+    unsigned cell_stride; /* the lists of every so many askable cells are asked for; 1 for all */
+    const char *trials;   /* the file that the program trials wrote */
+};
+
+void compare_words(const struct plan *plan);
+void compare_runs(const struct plan *plan);
+void compare_refusals(void);
+void compare_lists(const struct plan *plan);
+void compare_panel(void);
+
+#endif

@@ -1,0 +1,282 @@
+/* Random events on random machines and programs. Each script goes through galhoveia's run, the second emulator's run,
+   and the second emulator's machine event by event, which also counts what happened; on some machines also through
+   both emulators' single steps. All must come to the same answers and the same bytes. */
+#include "compare.h"
+#include "support.h"
+
+#include "../desk/galhoveia.h"
+#include "../second/second.h"
+
+#include <inttypes.h>
+#include <stdio.h>
+#include <string.h>
+
+enum { SCRIPT_LEAST = 200, SCRIPT_MOST = 1600, STEPPED_ONE_IN = 16, MACHINES_ON_ONE_PROGRAM = 8 };
+enum { EXTERNAL = 8, TIMER0 = 4, BASE = 2, PORT = 1 };
+
+static uint8_t program[PROGRAM_BYTES];
+
+/* ---- What happened ---- */
+
+enum happening {
+    DONE_EVENTS, CYCLES, AWAKE, ASLEEP_HALT, ASLEEP_STOP, WOKEN_HALT, WOKEN_STOP, INTERRUPT_EXTERNAL, INTERRUPT_TIMER0,
+    INTERRUPT_BASE, INTERRUPT_PORT, REQUEST_EXTERNAL, REQUEST_TIMER0, REQUEST_BASE, REQUEST_PORT, PIN_COUNTED,
+    RELOADED, READ_ASKED, READ_LANDED, READ_ASKED_WHILE_LANDING, WATCHDOG_RESET, PIN_RESET, WATCHDOG_RESTARTED,
+    ENTRY_DROPPED, THROUGH_POINTER, POINTER_AT_REGISTER, STOPPED_AT_ADDRESS, BEFORE_UNLISTED, AT_SCRIPT_END, HAPPENINGS
+};
+
+static const char *const happening_name[HAPPENINGS] = {
+    "events", "cycles", "instructions", "cycles asleep in HALT", "cycles asleep in STOP", "wakes from HALT",
+    "wakes from STOP", "interrupts: external", "interrupts: Timer0", "interrupts: base", "interrupts: port",
+    "new requests: external", "new requests: Timer0 (overflow)", "new requests: base (overflow)",
+    "new requests: port", "edges counted by Timer0", "Timer0 overflows with load", "reads asked for", "reads landed",
+    "reads asked for while one lands", "watchdog resets", "pin resets", "watchdog restarted by $01E",
+    "stack entries dropped", "instructions through $00F", "  of these at a register", "runs stopped at an address",
+    "runs stopped by an unlisted word", "runs ended by the script"};
+
+static uint64_t happened[HAPPENINGS];
+static uint64_t executed_code[32]; /* by bits 15-11 */
+
+static bool names_pointer(uint16_t word)
+{
+    if (word < 0x4000)
+        return (word & 0x3FF) == 0x00F;
+    return (word < 0x8000 && (word & 0x7F) == 0x0F) || word == 0xCB0F || word == 0xCD0F;
+}
+
+/* What the counting needs of the machine before an event. */
+struct glimpse {
+    uint16_t pc, watchdog, oldest;
+    uint8_t mode, pending, timer0_counter, options;
+    uint8_t enabled, requested;
+    uint16_t pointer;
+};
+
+static struct glimpse glimpse_of(const struct second_machine *m)
+{
+    return (struct glimpse){m->pc, m->watchdog, m->stack[7], m->mode, m->pending, m->timer0_counter, m->options,
+                            m->cell[0], m->cell[1],
+                            (uint16_t)(128u * m->cell[0x12] + 16u * m->cell[0x11] + m->cell[0x10])};
+}
+
+static void count_cycle(const struct glimpse *before, const struct second_machine *now)
+{
+    unsigned requests = before->enabled & before->requested;
+    bool idle = before->mode == SECOND_STOP && !(requests & (EXTERNAL | PORT));
+
+    happened[CYCLES]++;
+    if (idle) {
+        happened[ASLEEP_STOP]++;
+        return;
+    }
+    happened[READ_LANDED] += before->pending;
+    happened[READ_ASKED] += now->pending;
+    happened[READ_ASKED_WHILE_LANDING] += before->pending && now->pending;
+    happened[RELOADED] += before->timer0_counter == 255 && now->timer0_counter == now->timer0_load
+                          && (now->cell[2] & 8) && (now->cell[1] & TIMER0);
+    if (requests) {
+        happened[WOKEN_HALT] += before->mode == SECOND_HALT;
+        happened[WOKEN_STOP] += before->mode == SECOND_STOP;
+        happened[INTERRUPT_EXTERNAL + now->pc - 1]++;
+        happened[ENTRY_DROPPED] += before->oldest != 0;
+    } else if (before->mode == SECOND_HALT) {
+        happened[ASLEEP_HALT]++;
+    } else {
+        uint16_t word = (uint16_t)two(program + 2 * before->pc);
+
+        happened[AWAKE]++;
+        executed_code[word >> 11]++;
+        happened[ENTRY_DROPPED] += word >> 11 == 24 && before->oldest != 0;
+        happened[THROUGH_POINTER] += names_pointer(word);
+        happened[POINTER_AT_REGISTER] += names_pointer(word) && before->pointer < 0x020;
+        happened[WATCHDOG_RESTARTED] += now->watchdog > before->watchdog;
+    }
+}
+
+static void count_event(const struct glimpse *before, const struct second_machine *now, uint8_t event)
+{
+    unsigned fresh_requests = now->cell[1] & ~before->requested;
+
+    happened[DONE_EVENTS]++;
+    if (event == CYCLE)
+        count_cycle(before, now);
+    happened[WATCHDOG_RESET] += event == WATCHDOG_PULSE && (before->options & 1) && before->watchdog == 1;
+    happened[PIN_RESET] += event == RESET_PIN;
+    happened[REQUEST_EXTERNAL] += event >= PINS_A && (fresh_requests & EXTERNAL);
+    happened[REQUEST_TIMER0] += (fresh_requests & TIMER0) && before->timer0_counter == 255;
+    happened[REQUEST_BASE] += event == BASE_PULSE && (fresh_requests & BASE);
+    happened[REQUEST_PORT] += event >= PINS_A && (fresh_requests & PORT);
+    happened[PIN_COUNTED] += event >= PINS_A && now->timer0_counter != before->timer0_counter;
+}
+
+/* ---- One stretch of a script ---- */
+
+struct result {
+    uint32_t answer;
+    uint32_t reason;
+    uint64_t events;
+    uint64_t value;
+    struct machine machine;
+};
+
+static bool same(const struct result *left, const struct result *right)
+{
+    return left->answer == right->answer && left->reason == right->reason && left->events == right->events
+           && left->value == right->value && memcmp(&left->machine, &right->machine, sizeof left->machine) == 0;
+}
+
+typedef uint32_t runs(const uint8_t *, size_t, uint8_t *, size_t, uint8_t *, size_t, const uint8_t *, size_t, uint32_t,
+                      uint32_t *, uint64_t *, uint64_t *);
+typedef uint32_t steps(const uint8_t *, size_t, uint8_t *, size_t, uint8_t *, size_t, uint8_t, uint64_t *);
+
+static struct result by_run(runs *run, const struct machine *start, const uint8_t *script, size_t length,
+                            uint32_t stop)
+{
+    struct result result = {99, 99, 99, 99, *start};
+
+    result.answer = run(program, PROGRAM_BYTES, result.machine.memory, MEMORY_BYTES, result.machine.record, RECORD_BYTES,
+                        script, length, stop, &result.reason, &result.events, &result.value);
+    return result;
+}
+
+/* What a run must come to, put together from single steps (01, Events; readings 16 to 18). */
+static struct result by_steps(steps *step, const struct machine *start, const uint8_t *script, size_t length,
+                              uint32_t stop)
+{
+    struct result result = {0, AT_END, 0, 0, *start};
+
+    while (result.events < length) {
+        result.answer = step(program, PROGRAM_BYTES, result.machine.memory, MEMORY_BYTES, result.machine.record,
+                             RECORD_BYTES, script[result.events], &result.value);
+        if (result.answer != 0) {
+            result.reason = AT_UNLISTED;
+            break;
+        }
+        result.events++;
+        if (script[result.events - 1] == CYCLE && two(result.machine.record + R_PC) == stop) {
+            result.reason = AT_ADDRESS;
+            break;
+        }
+    }
+    return result;
+}
+
+/* The same from the second emulator's machine, unpacked once, which is quick enough to watch every event. */
+static struct result by_watching(const struct machine *start, const uint8_t *script, size_t length, uint32_t stop)
+{
+    struct result result = {0, AT_END, 0, 0, *start};
+    struct second_machine now;
+
+    second_unpack(&now, start->memory, start->record);
+    while (result.events < length) {
+        uint8_t event = script[result.events];
+        struct glimpse before = glimpse_of(&now);
+        uint64_t done;
+
+        if (second_run_machine(&now, program, &event, 1, NO_STOP, &done) == SECOND_AT_UNLISTED) {
+            result.answer = 6;
+            result.reason = AT_UNLISTED;
+            result.value = now.pc;
+            break;
+        }
+        count_event(&before, &now, event);
+        result.events++;
+        if (event == CYCLE && now.pc == stop) {
+            result.reason = AT_ADDRESS;
+            break;
+        }
+    }
+    second_pack(&now, result.machine.memory, result.machine.record);
+    return result;
+}
+
+/* ---- Machines ---- */
+
+static uint32_t any_stop(void)
+{
+    switch (any(4)) {
+    case 0:
+        return any(WORDS);
+    case 1:
+        return any(8);
+    case 2:
+        return NO_STOP;
+    default:
+        return (uint32_t)any_64() | NO_STOP;
+    }
+}
+
+static void one_machine(uint64_t number)
+{
+    static uint8_t script[SCRIPT_MOST], program_before[PROGRAM_BYTES];
+    size_t length = SCRIPT_LEAST + any(SCRIPT_MOST - SCRIPT_LEAST), at = 0;
+    uint64_t program_number = number / MACHINES_ON_ONE_PROGRAM;
+    enum mix mix = program_number % 32 == 31 ? MIX_ANY : (enum mix)(program_number % MIX_ANY);
+    bool stepped = any(STEPPED_ONE_IN) == 0;
+    struct machine machine;
+
+    if (number % MACHINES_ON_ONE_PROGRAM == 0) {
+        random_program(program, mix);
+        memcpy(program_before, program, sizeof program);
+    }
+    random_machine(&machine);
+    random_script(script, length, mix);
+    while (at < length) {
+        size_t stretch = 1 + any((uint32_t)(any(4) ? (length - at + 7) / 8 : length - at));
+        uint32_t stop = any_stop();
+        struct result ours = by_run(galhoveia_run, &machine, script + at, stretch, stop);
+        struct result second = by_run(second_run, &machine, script + at, stretch, stop);
+        struct result watched = by_watching(&machine, script + at, stretch, stop);
+
+        check(same(&ours, &second),
+              "machine %" PRIu64 " at event %zu: run of %zu with stop %u: answer %u/%u, reason %u/%u, events %" PRIu64
+              "/%" PRIu64, number, at, stretch, stop, ours.answer, second.answer, ours.reason, second.reason,
+              ours.events, second.events);
+        check(same(&second, &watched), "machine %" PRIu64 " at event %zu: the second run is not its events", number, at);
+        if (stepped) {
+            struct result our_steps = by_steps(galhoveia_step, &machine, script + at, stretch, stop);
+            struct result second_steps = by_steps(second_step, &machine, script + at, stretch, stop);
+
+            check(same(&our_steps, &ours), "machine %" PRIu64 " at event %zu: run is not its steps", number, at);
+            check(same(&second_steps, &second), "machine %" PRIu64 " at event %zu: second run, steps", number, at);
+            check(same(&our_steps, &second_steps), "machine %" PRIu64 " at event %zu: steps differ", number, at);
+            reached[STEP][our_steps.answer < REFUSALS ? our_steps.answer : 0]++;
+        }
+        reached[RUN][ours.answer < REFUSALS ? ours.answer : 0]++;
+        happened[STOPPED_AT_ADDRESS + second.reason]++;
+        machine = second.machine;
+        at += second.events;
+        /* In front of an unlisted word only another event than a cycle leads on. */
+        if (second.reason == AT_UNLISTED)
+            script[at] = any(2) ? RESET_PIN : (uint8_t)(PINS_A + any(0x40));
+        if (second.reason == AT_UNLISTED && script[at] != RESET_PIN)
+            set_two(machine.record + R_PC, any(WORDS));
+        if (any(2))
+            nudge(&machine);
+    }
+    check(memcmp(program, program_before, sizeof program) == 0, "machine %" PRIu64 ": its program is changed", number);
+}
+
+void compare_runs(const struct plan *plan)
+{
+    uint64_t next_line = plan->events / 4, machines = 0;
+    unsigned least = 0;
+
+    while (happened[DONE_EVENTS] < plan->events) {
+        one_machine(machines++);
+        if (happened[DONE_EVENTS] >= next_line) {
+            progress("runs: %" PRIu64 " events on %" PRIu64 " machines; failed so far %lu", happened[DONE_EVENTS],
+                     machines, failed);
+            next_line += plan->events / 4;
+        }
+    }
+    for (int what = 0; what < HAPPENINGS; what++) {
+        printf("  %-34s %12" PRIu64 "\n", happening_name[what], happened[what]);
+        check(happened[what] > 0, "no %s in all these runs", happening_name[what]);
+    }
+    for (unsigned code = 0; code < 32; code++)
+        if (executed_code[code] < executed_code[least])
+            least = code;
+    progress("  instructions of the rarest code (%u): %" PRIu64, least, executed_code[least]);
+    check(executed_code[least] > 0, "no instruction of code %u in all these runs", least);
+}

@@ -1,0 +1,20 @@
+/* The trials of every word on every cell, and a program with every form that could touch a cell or miss it narrowly:
+   what the comparison of the lists and the program that makes the trials share. */
+#ifndef TESTS_FORMS_H
+#define TESTS_FORMS_H
+
+#include "support.h"
+
+/* A bit for each cell, in a row for each word: the word, executed in some state, changed the cell. */
+enum { TRIAL_BYTES = MEMORY_BYTES / 8 };
+
+static inline bool trial_of(uint8_t (*trials)[TRIAL_BYTES], uint16_t word, unsigned cell)
+{
+    return trials[word][cell / 8] >> cell % 8 & 1;
+}
+
+/* Fills the program, and answers how many of its words are about the cell; the others are NOP, but for two stores at
+   $800 and $FFF. */
+unsigned program_about(uint8_t program[PROGRAM_BYTES], unsigned cell);
+
+#endif

@@ -1,0 +1,327 @@
+/* Every call made on both emulators with the same lent bytes. */
+#define _DEFAULT_SOURCE
+#include "support.h"
+
+#include "../desk/galhoveia.h"
+#include "../second/second.h"
+
+#include <stdio.h>
+#include <stdlib.h>
+#include <string.h>
+#include <sys/mman.h>
+#include <unistd.h>
+
+/* ---- Lending ---- */
+
+/* Each lent area of each side lies at the end of its own pages, with bytes of a known pattern before it and a page
+   that cannot be touched after it: a callee that reads or writes past the length it was given dies on the spot. */
+enum side { GALHOVEIA, SECOND, SIDES };
+enum slot { SLOT_PROGRAM, SLOT_MEMORY, SLOT_RECORD, SLOT_SCRIPT, SLOT_BODY, SLOT_OTHER_BODY, SLOT_OUTPUT, SLOTS };
+enum { AREA = 1 << 20, BEFORE = 64, BEFORE_PATTERN = 0x5A };
+
+static uint8_t *area_end[SIDES][SLOTS];
+
+static uint8_t *end_of(enum side side, enum slot slot)
+{
+    if (area_end[side][slot] == NULL) {
+        size_t page = (size_t)sysconf(_SC_PAGESIZE);
+        uint8_t *area = mmap(NULL, AREA + page, PROT_READ | PROT_WRITE, MAP_PRIVATE | MAP_ANONYMOUS, -1, 0);
+
+        if (area == MAP_FAILED || mprotect(area + AREA, page, PROT_NONE) != 0) {
+            perror("compare: no memory to lend");
+            exit(EXIT_FAILURE);
+        }
+        area_end[side][slot] = area + AREA;
+    }
+    return area_end[side][slot];
+}
+
+static uint8_t *lend(enum side side, enum slot slot, struct lent lent)
+{
+    uint8_t *at;
+
+    if (lent.length > AREA - BEFORE) {
+        printf("a case lends more than there is\n");
+        exit(EXIT_FAILURE);
+    }
+    at = end_of(side, slot) - lent.length;
+    memset(at - BEFORE, BEFORE_PATTERN, BEFORE);
+    memcpy(at, lent.bytes, lent.length);
+    return at;
+}
+
+static bool is_as_lent(enum side side, enum slot slot, struct lent lent)
+{
+    return memcmp(end_of(side, slot) - lent.length, lent.bytes, lent.length) == 0;
+}
+
+static bool is_whole_before(enum side side, enum slot slot, size_t length)
+{
+    static uint8_t pattern[BEFORE];
+
+    memset(pattern, BEFORE_PATTERN, BEFORE);
+    return memcmp(end_of(side, slot) - length - BEFORE, pattern, BEFORE) == 0;
+}
+
+/* ---- Pairs ---- */
+
+const char *const call_name[CALLS] = {"step", "run", "list", "level", "fresh", "picture", "book_read", "book_write"};
+unsigned long reached[CALLS][REFUSALS];
+struct after after;
+
+/* Out values start with these, so that one that was not to be written can be told. */
+static const struct after untouched = {
+    UINT64_C(0xA1A2A3A4A5A6A7A8), 0xB1B2B3B4, UINT64_C(0xC1C2C3C4C5C6C7C8), -0x1D2D3D4D, UINT64_C(0xE1E2E3E4E5E6E7E8),
+    {11, 22, 33, 44, 55, 66}, NULL, NULL, NULL};
+
+struct outcome {
+    uint32_t answer;
+    struct after out;
+};
+
+static bool same_numbers(const struct after *left, const struct after *right)
+{
+    return left->reason == right->reason && left->events == right->events && left->level == right->level
+           && left->count == right->count && memcmp(left->part, right->part, sizeof left->part) == 0;
+}
+
+/* One lent area after both calls. */
+static void compare_area(enum call call, const char *area, enum slot slot, struct lent lent, bool may_change)
+{
+    const uint8_t *left = end_of(GALHOVEIA, slot) - lent.length;
+    const uint8_t *right = end_of(SECOND, slot) - lent.length;
+    size_t at = 0;
+
+    check(is_whole_before(GALHOVEIA, slot, lent.length), "%s writes before its %s", call_name[call], area);
+    check(is_whole_before(SECOND, slot, lent.length), "second %s writes before its %s", call_name[call], area);
+    if (memcmp(left, right, lent.length) != 0)
+        while (left[at] == right[at])
+            at++;
+    else
+        at = lent.length;
+    check(at == lent.length, "%s: %s differs at %zu: %u against %u", call_name[call], area, at,
+          at < lent.length ? left[at] : 0, at < lent.length ? right[at] : 0);
+    if (!may_change) {
+        check(is_as_lent(GALHOVEIA, slot, lent), "%s changes its %s", call_name[call], area);
+        check(is_as_lent(SECOND, slot, lent), "second %s changes its %s", call_name[call], area);
+    }
+}
+
+/* Whether the call may have changed what it was lent for writing. */
+static bool may_write(enum call call, uint32_t answer)
+{
+    return answer == 0 || (call == RUN && answer == 6);
+}
+
+static uint32_t conclude(enum call call, const struct outcome outcome[SIDES])
+{
+    const struct outcome *left = &outcome[GALHOVEIA], *right = &outcome[SECOND];
+
+    check(left->answer == right->answer, "%s answers %u, second %u", call_name[call], left->answer, right->answer);
+    check(left->out.value == right->out.value, "%s, answer %u, value %llu, second %llu", call_name[call], left->answer,
+          (unsigned long long)left->out.value, (unsigned long long)right->out.value);
+    check(same_numbers(&left->out, &right->out), "%s, answer %u: an out value differs", call_name[call], left->answer);
+    if (!may_write(call, left->answer))
+        check(same_numbers(&left->out, &untouched), "%s, refused by %u, writes an out value", call_name[call],
+              left->answer);
+    check(left->answer != 0 || left->out.value == 0, "%s, done, value not 0", call_name[call]);
+    if (left->answer < REFUSALS)
+        reached[call][left->answer]++;
+    after = left->out;
+    return left->answer;
+}
+
+/* Where each side holds what it was lent. */
+static uint8_t *held[SIDES][SLOTS];
+
+static void give(enum slot slot, struct lent lent)
+{
+    for (int side = 0; side < SIDES; side++)
+        held[side][slot] = lend(side, slot, lent);
+}
+
+uint32_t pair_step(struct lent program, struct lent memory, struct lent record, uint8_t event)
+{
+    struct outcome outcome[SIDES] = {{0, untouched}, {0, untouched}};
+    uint32_t answer;
+
+    give(SLOT_PROGRAM, program);
+    give(SLOT_MEMORY, memory);
+    give(SLOT_RECORD, record);
+    outcome[GALHOVEIA].answer =
+        galhoveia_step(held[GALHOVEIA][SLOT_PROGRAM], program.length, held[GALHOVEIA][SLOT_MEMORY], memory.length,
+                       held[GALHOVEIA][SLOT_RECORD], record.length, event, &outcome[GALHOVEIA].out.value);
+    outcome[SECOND].answer =
+        second_step(held[SECOND][SLOT_PROGRAM], program.length, held[SECOND][SLOT_MEMORY], memory.length,
+                    held[SECOND][SLOT_RECORD], record.length, event, &outcome[SECOND].out.value);
+    answer = conclude(STEP, outcome);
+    compare_area(STEP, "program", SLOT_PROGRAM, program, false);
+    compare_area(STEP, "memory", SLOT_MEMORY, memory, may_write(STEP, answer));
+    compare_area(STEP, "record", SLOT_RECORD, record, may_write(STEP, answer));
+    after.memory = held[GALHOVEIA][SLOT_MEMORY];
+    after.record = held[GALHOVEIA][SLOT_RECORD];
+    return answer;
+}
+
+uint32_t pair_run(struct lent program, struct lent memory, struct lent record, struct lent script, uint32_t stop)
+{
+    struct outcome outcome[SIDES] = {{0, untouched}, {0, untouched}};
+    uint32_t answer;
+
+    give(SLOT_PROGRAM, program);
+    give(SLOT_MEMORY, memory);
+    give(SLOT_RECORD, record);
+    give(SLOT_SCRIPT, script);
+    outcome[GALHOVEIA].answer =
+        galhoveia_run(held[GALHOVEIA][SLOT_PROGRAM], program.length, held[GALHOVEIA][SLOT_MEMORY], memory.length,
+                      held[GALHOVEIA][SLOT_RECORD], record.length, held[GALHOVEIA][SLOT_SCRIPT], script.length, stop,
+                      &outcome[GALHOVEIA].out.reason, &outcome[GALHOVEIA].out.events, &outcome[GALHOVEIA].out.value);
+    outcome[SECOND].answer =
+        second_run(held[SECOND][SLOT_PROGRAM], program.length, held[SECOND][SLOT_MEMORY], memory.length,
+                   held[SECOND][SLOT_RECORD], record.length, held[SECOND][SLOT_SCRIPT], script.length, stop,
+                   &outcome[SECOND].out.reason, &outcome[SECOND].out.events, &outcome[SECOND].out.value);
+    answer = conclude(RUN, outcome);
+    compare_area(RUN, "program", SLOT_PROGRAM, program, false);
+    compare_area(RUN, "memory", SLOT_MEMORY, memory, may_write(RUN, answer));
+    compare_area(RUN, "record", SLOT_RECORD, record, may_write(RUN, answer));
+    compare_area(RUN, "script", SLOT_SCRIPT, script, false);
+    after.memory = held[GALHOVEIA][SLOT_MEMORY];
+    after.record = held[GALHOVEIA][SLOT_RECORD];
+    return answer;
+}
+
+uint32_t pair_list(struct lent program, uint32_t cell, struct lent output)
+{
+    struct outcome outcome[SIDES] = {{0, untouched}, {0, untouched}};
+    uint32_t answer;
+
+    give(SLOT_PROGRAM, program);
+    give(SLOT_OUTPUT, output);
+    outcome[GALHOVEIA].answer =
+        galhoveia_list(held[GALHOVEIA][SLOT_PROGRAM], program.length, cell, held[GALHOVEIA][SLOT_OUTPUT],
+                       output.length, &outcome[GALHOVEIA].out.count, &outcome[GALHOVEIA].out.value);
+    outcome[SECOND].answer =
+        second_list(held[SECOND][SLOT_PROGRAM], program.length, cell, held[SECOND][SLOT_OUTPUT], output.length,
+                    &outcome[SECOND].out.count, &outcome[SECOND].out.value);
+    answer = conclude(LIST, outcome);
+    compare_area(LIST, "program", SLOT_PROGRAM, program, false);
+    compare_area(LIST, "addresses", SLOT_OUTPUT, output, may_write(LIST, answer));
+    after.output = held[GALHOVEIA][SLOT_OUTPUT];
+    return answer;
+}
+
+uint32_t pair_level(struct lent memory, struct lent body)
+{
+    struct outcome outcome[SIDES] = {{0, untouched}, {0, untouched}};
+    uint32_t answer;
+
+    give(SLOT_MEMORY, memory);
+    give(SLOT_BODY, body);
+    outcome[GALHOVEIA].answer =
+        galhoveia_level(held[GALHOVEIA][SLOT_MEMORY], memory.length, held[GALHOVEIA][SLOT_BODY], body.length,
+                        &outcome[GALHOVEIA].out.level, &outcome[GALHOVEIA].out.value);
+    outcome[SECOND].answer =
+        second_level(held[SECOND][SLOT_MEMORY], memory.length, held[SECOND][SLOT_BODY], body.length,
+                     &outcome[SECOND].out.level, &outcome[SECOND].out.value);
+    answer = conclude(LEVEL, outcome);
+    compare_area(LEVEL, "memory", SLOT_MEMORY, memory, false);
+    compare_area(LEVEL, "body", SLOT_BODY, body, false);
+    return answer;
+}
+
+uint32_t pair_fresh(struct lent memory, struct lent record, uint32_t options)
+{
+    struct outcome outcome[SIDES] = {{0, untouched}, {0, untouched}};
+    uint32_t answer;
+
+    give(SLOT_MEMORY, memory);
+    give(SLOT_RECORD, record);
+    outcome[GALHOVEIA].answer =
+        galhoveia_fresh(held[GALHOVEIA][SLOT_MEMORY], memory.length, held[GALHOVEIA][SLOT_RECORD], record.length,
+                        options, &outcome[GALHOVEIA].out.value);
+    outcome[SECOND].answer =
+        second_fresh(held[SECOND][SLOT_MEMORY], memory.length, held[SECOND][SLOT_RECORD], record.length, options,
+                     &outcome[SECOND].out.value);
+    answer = conclude(FRESH, outcome);
+    compare_area(FRESH, "memory", SLOT_MEMORY, memory, may_write(FRESH, answer));
+    compare_area(FRESH, "record", SLOT_RECORD, record, may_write(FRESH, answer));
+    after.memory = held[GALHOVEIA][SLOT_MEMORY];
+    after.record = held[GALHOVEIA][SLOT_RECORD];
+    return answer;
+}
+
+uint32_t pair_picture(struct lent memory, struct lent record, struct lent body, struct lent output)
+{
+    struct outcome outcome[SIDES] = {{0, untouched}, {0, untouched}};
+    uint32_t answer;
+
+    give(SLOT_MEMORY, memory);
+    give(SLOT_RECORD, record);
+    give(SLOT_BODY, body);
+    give(SLOT_OUTPUT, output);
+    outcome[GALHOVEIA].answer =
+        galhoveia_picture(held[GALHOVEIA][SLOT_MEMORY], memory.length, held[GALHOVEIA][SLOT_RECORD], record.length,
+                          held[GALHOVEIA][SLOT_BODY], body.length, held[GALHOVEIA][SLOT_OUTPUT], output.length,
+                          &outcome[GALHOVEIA].out.count, &outcome[GALHOVEIA].out.value);
+    outcome[SECOND].answer =
+        second_picture(held[SECOND][SLOT_MEMORY], memory.length, held[SECOND][SLOT_RECORD], record.length,
+                       held[SECOND][SLOT_BODY], body.length, held[SECOND][SLOT_OUTPUT], output.length,
+                       &outcome[SECOND].out.count, &outcome[SECOND].out.value);
+    answer = conclude(PICTURE, outcome);
+    compare_area(PICTURE, "memory", SLOT_MEMORY, memory, false);
+    compare_area(PICTURE, "record", SLOT_RECORD, record, false);
+    compare_area(PICTURE, "body", SLOT_BODY, body, false);
+    compare_area(PICTURE, "picture", SLOT_OUTPUT, output, may_write(PICTURE, answer));
+    after.output = held[GALHOVEIA][SLOT_OUTPUT];
+    return answer;
+}
+
+uint32_t pair_book_read(struct lent book)
+{
+    struct outcome outcome[SIDES] = {{0, untouched}, {0, untouched}};
+    uint64_t *left = outcome[GALHOVEIA].out.part, *right = outcome[SECOND].out.part;
+    uint32_t answer;
+
+    give(SLOT_BODY, book);
+    outcome[GALHOVEIA].answer =
+        galhoveia_book_read(held[GALHOVEIA][SLOT_BODY], book.length, &left[0], &left[1], &left[2], &left[3], &left[4],
+                            &left[5], &outcome[GALHOVEIA].out.value);
+    outcome[SECOND].answer = second_book_read(held[SECOND][SLOT_BODY], book.length, &right[0], &right[1], &right[2],
+                                              &right[3], &right[4], &right[5], &outcome[SECOND].out.value);
+    answer = conclude(BOOK_READ, outcome);
+    compare_area(BOOK_READ, "book", SLOT_BODY, book, false);
+    return answer;
+}
+
+uint32_t pair_book_write(struct lent program, struct lent wiring, struct lent level, struct lent output)
+{
+    struct outcome outcome[SIDES] = {{0, untouched}, {0, untouched}};
+    uint32_t answer;
+
+    give(SLOT_PROGRAM, program);
+    give(SLOT_BODY, wiring);
+    give(SLOT_OTHER_BODY, level);
+    give(SLOT_OUTPUT, output);
+    outcome[GALHOVEIA].answer =
+        galhoveia_book_write(held[GALHOVEIA][SLOT_PROGRAM], program.length, held[GALHOVEIA][SLOT_BODY], wiring.length,
+                             held[GALHOVEIA][SLOT_OTHER_BODY], level.length, held[GALHOVEIA][SLOT_OUTPUT],
+                             output.length, &outcome[GALHOVEIA].out.count, &outcome[GALHOVEIA].out.value);
+    outcome[SECOND].answer =
+        second_book_write(held[SECOND][SLOT_PROGRAM], program.length, held[SECOND][SLOT_BODY], wiring.length,
+                          held[SECOND][SLOT_OTHER_BODY], level.length, held[SECOND][SLOT_OUTPUT], output.length,
+                          &outcome[SECOND].out.count, &outcome[SECOND].out.value);
+    answer = conclude(BOOK_WRITE, outcome);
+    compare_area(BOOK_WRITE, "program", SLOT_PROGRAM, program, false);
+    compare_area(BOOK_WRITE, "wiring", SLOT_BODY, wiring, false);
+    compare_area(BOOK_WRITE, "level", SLOT_OTHER_BODY, level, false);
+    compare_area(BOOK_WRITE, "book", SLOT_OUTPUT, output, may_write(BOOK_WRITE, answer));
+    after.output = held[GALHOVEIA][SLOT_OUTPUT];
+    return answer;
+}
+
+void expect(const char *what, uint32_t answer, uint32_t number, uint64_t value)
+{
+    check(answer == number, "%s: answer %u, not %u", what, answer, number);
+    check(after.value == value, "%s: value %llu, not %llu", what, (unsigned long long)after.value,
+          (unsigned long long)value);
+}

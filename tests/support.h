@@ -1,0 +1,111 @@
+/* What the parts of the comparison share: counting, a random source, machines and programs made at random, and every
+   call made on both emulators with the same lent bytes. */
+#ifndef TESTS_SUPPORT_H
+#define TESTS_SUPPORT_H
+
+#include <stdbool.h>
+#include <stddef.h>
+#include <stdint.h>
+
+enum { PROGRAM_BYTES = 8192, MEMORY_BYTES = 1024, RECORD_BYTES = 37, WORDS = 4096, NO_STOP = 4096 };
+
+/* Where each field of the record begins (01, What is lent). */
+enum {
+    R_PC = 0, R_AC = 2, R_CY = 3, R_MODE = 4, R_STACK = 5, R_T0_PRESCALER = 21, R_T0_COUNTER = 23, R_T0_LOAD = 24,
+    R_BASE_PRESCALER = 25, R_BASE_COUNTER = 26, R_WATCHDOG = 27, R_PINS = 29, R_OPTIONS = 33, R_PENDING = 34,
+    R_PENDING_ADDRESS = 35
+};
+enum { RUNNING = 0, IN_HALT = 1, IN_STOP = 2 };
+enum { CYCLE = 0x00, BASE_PULSE = 0x01, WATCHDOG_PULSE = 0x02, RESET_PIN = 0x03, PINS_A = 0x10, PINS_D = 0x40 };
+enum { AT_ADDRESS = 0, AT_UNLISTED = 1, AT_END = 2 };
+
+/* ---- Counting ---- */
+
+extern unsigned long passed, failed;
+
+/* Counts one comparison. The first failures are printed, the others only counted. */
+void check(bool holds, const char *format, ...) __attribute__((format(printf, 2, 3)));
+
+/* A line that is seen at once, so that a long test shows that it moves. */
+void progress(const char *format, ...) __attribute__((format(printf, 1, 2)));
+
+/* ---- Chance ---- */
+
+void seed_random(uint64_t seed);
+uint64_t any_64(void);
+uint32_t any(uint32_t below);
+
+/* ---- Machines and programs ---- */
+
+struct machine {
+    uint8_t memory[MEMORY_BYTES];
+    uint8_t record[RECORD_BYTES];
+};
+
+unsigned two(const uint8_t *bytes);
+void set_two(uint8_t *bytes, unsigned number);
+
+bool is_unlisted(uint16_t word);
+bool is_askable(uint32_t cell); /* a data, display or scan cell */
+bool is_display(uint32_t cell);
+uint8_t bits_held(unsigned address);
+unsigned ratio_of(uint8_t timer0_mode);
+unsigned base_ratio_of(uint8_t base_mode);
+unsigned period_of(uint8_t watchdog_register);
+bool base_is_on(uint8_t base_mode);
+
+/* Any well-formed machine; the registers that make things happen are drawn so that they do. */
+void random_machine(struct machine *machine);
+
+/* Changes a well-formed machine into another in which something is about to happen: one that nothing can wake gets
+   interrupts enabled, counters move close to their end, requests and outputs change. */
+void nudge(struct machine *machine);
+
+/* What a program is mostly about. */
+enum mix { MIX_BUSY, MIX_TIMERS, MIX_ASLEEP, MIX_READS, MIX_NESTED, MIX_ANY, MIXES };
+
+void random_program(uint8_t program[PROGRAM_BYTES], enum mix mix);
+void random_script(uint8_t *script, size_t length, enum mix mix);
+
+/* ---- Every call on both sides ---- */
+
+struct lent {
+    const uint8_t *bytes;
+    size_t length;
+};
+
+#define LENT(area) ((struct lent){(area), sizeof(area)})
+
+enum call { STEP, RUN, LIST, LEVEL, FRESH, PICTURE, BOOK_READ, BOOK_WRITE, CALLS };
+enum { REFUSALS = 14 };
+
+extern const char *const call_name[CALLS];
+extern unsigned long reached[CALLS][REFUSALS];
+
+/* What the last pair of calls came to; both sides agree in it, or a failure has been counted. */
+extern struct after {
+    uint64_t value;
+    uint32_t reason;
+    uint64_t events;
+    int32_t level;
+    uint64_t count;
+    uint64_t part[6];
+    const uint8_t *memory, *record, *output;
+} after;
+
+/* Each lends copies of the bytes to both emulators, ending right before a page that cannot be touched, and compares
+   the answers, the out values, and every lent byte. It also holds each side to 01's rule that a refusal changes
+   nothing. They answer what galhoveia answered. `output` is what stands in the room before the call. */
+uint32_t pair_step(struct lent program, struct lent memory, struct lent record, uint8_t event);
+uint32_t pair_run(struct lent program, struct lent memory, struct lent record, struct lent script, uint32_t stop);
+uint32_t pair_list(struct lent program, uint32_t cell, struct lent output);
+uint32_t pair_level(struct lent memory, struct lent body);
+uint32_t pair_fresh(struct lent memory, struct lent record, uint32_t options);
+uint32_t pair_picture(struct lent memory, struct lent record, struct lent body, struct lent output);
+uint32_t pair_book_read(struct lent book);
+uint32_t pair_book_write(struct lent program, struct lent wiring, struct lent level, struct lent output);
+
+/* Holds an answer and its value to what the documents say. */
+void expect(const char *what, uint32_t answer, uint32_t number, uint64_t value);
+
+#endif
