@@ -114,9 +114,10 @@ test: build/plain/header build/plain/header-cpp build/plain/desk build/plain/com
 	    "tests/desk.sh build/plain/desk" "build/native/trials build/trials" \
 	    "tests/beside.sh 'build/plain/compare calls --trials build/trials' 'build/plain/compare runs --events $(EVENTS)'"
 
-# Leaks are not looked for: every command of the desk would take seconds to end, and none lives long.
+# A finding ends with 99, which no command of the desk does. Leaks are not looked for: every command would take seconds
+# to end, and none lives long.
 test-sanitized: build/sanitized/desk build/sanitized/compare build/sanitized/text build/native/trials
-	@ASAN_OPTIONS=detect_leaks=0 tests/all.sh build/sanitized/text "tests/desk.sh build/sanitized/desk" \
+	@ASAN_OPTIONS=detect_leaks=0:exitcode=99 UBSAN_OPTIONS=exitcode=99 tests/all.sh build/sanitized/text "tests/desk.sh build/sanitized/desk" \
 	    "build/native/trials build/trials" \
 	    "tests/clean.sh build/sanitized/compare calls --trials build/trials --machines 2 --cell-stride 200" \
 	    "tests/clean.sh build/sanitized/compare runs --events $(SANITIZED_EVENTS)"

@@ -193,6 +193,8 @@ static enum status work_run(const struct command *command, int count, char **wor
         free(script.at);
         return REFUSED;
     }
+    if (show)
+        may_draw(&book, look);
     refusal = run_events(&book, &state, script.at, script.length, stop_address, &reason, &done);
     status = refusal == GALHOVEIA_DONE ? DONE : REFUSED;
     if (refusal == GALHOVEIA_DONE || refusal == GALHOVEIA_UNLISTED_WORD) {
@@ -200,7 +202,7 @@ static enum status work_run(const struct command *command, int count, char **wor
             write_state(save, &state, force);
             printf("state saved in %s\n", save);
         }
-        if (show && !(show_picture(&book, &state, others[0], look) && show_level(&book, &state, others[0])))
+        if (show && !(show_picture(&book, &state, "the picture", look) && show_level(&book, &state, "the level")))
             status = REFUSED;
     }
     free(script.at);
@@ -240,6 +242,7 @@ static enum status work_picture(const struct command *command, int count, char *
     read_state(others[1], &state);
     if (!read_book(others[0], &book))
         return REFUSED;
+    may_draw(&book, look);
     done = show_picture(&book, &state, others[1], look);
     free(book.file.at);
     return done ? DONE : REFUSED;

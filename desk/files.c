@@ -77,7 +77,7 @@ void may_write(const char *path, bool force)
    taken by an empty file first. */
 static bool name_new(const char *finished, const char *path)
 {
-    int taken;
+    int taken; /* a file of that name, then why it could not be used */
 
     if (link(finished, path) == 0)
         return unlink(finished) == 0;
@@ -87,7 +87,12 @@ static bool name_new(const char *finished, const char *path)
     if (taken < 0)
         return false;
     close(taken);
-    return rename(finished, path) == 0;
+    if (rename(finished, path) == 0)
+        return true;
+    taken = errno;
+    unlink(path);
+    errno = taken;
+    return false;
 }
 
 static bool write_all(int file, const uint8_t *bytes, size_t length)

@@ -1,7 +1,7 @@
 /* Galhoveia: a proved emulator of the 4-bit controller SH67P54, for C and C++.
 
-   Link with target/staticlib/libhost.a, which `make archive` builds. The library keeps nothing between calls: the
-   chip's program, its memory and its registers stay with the caller and are lent to each call as bytes.
+   Link with target/staticlib/libhost.a (x86-64 code), which `make archive` builds. The library keeps nothing between
+   calls: the chip's program, its memory and its registers stay with the caller and are lent to each call as bytes.
 
      program   8,192 bytes: 4,096 words of 16 bits, high byte first; word n is at bytes 2n and 2n + 1
      memory    1,024 bytes: one nibble of the chip's RAM in each, at the chip's own addresses $000 to $3FF

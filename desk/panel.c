@@ -89,6 +89,15 @@ bool show_level(const struct book *book, const struct state *state, const char *
     return true;
 }
 
+void may_draw(const struct book *book, struct look look)
+{
+    size_t elements = book->wiring.length / GALHOVEIA_ELEMENT_BYTES;
+
+    if (!look.raw && 7 * (size_t)look.digits > elements)
+        fail("%lu digits need %lu elements, and the wiring has %lu", (unsigned long)look.digits,
+             7 * (unsigned long)look.digits, (unsigned long)elements);
+}
+
 bool show_picture(const struct book *book, const struct state *state, const char *state_name, struct look look)
 {
     uint8_t picture[GALHOVEIA_ELEMENTS_MOST];
@@ -104,9 +113,6 @@ bool show_picture(const struct book *book, const struct state *state, const char
         fwrite(picture, 1, (size_t)count, stdout);
         return true;
     }
-    if (7 * (uint64_t)look.digits > count)
-        fail("%lu digits need %lu elements, and the wiring has %llu", (unsigned long)look.digits,
-             7 * (unsigned long)look.digits, (unsigned long long)count);
     draw_picture(picture, (size_t)count, look.digits, look.columns);
     return true;
 }

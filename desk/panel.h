@@ -30,6 +30,9 @@ struct look {
     uint32_t digits, columns;
 };
 
+/* Fails where the wiring has fewer elements than the digits to be drawn need. */
+void may_draw(const struct book *book, struct look look);
+
 bool show_picture(const struct book *book, const struct state *state, const char *state_name, struct look look);
 bool show_level(const struct book *book, const struct state *state, const char *state_name);
 bool show_writers(const struct book *book, uint32_t cell, const char *meaning);

@@ -132,7 +132,7 @@ struct bytes script_from_text(const char *path, const char *text)
 
         if (!event_from(word, name, &event))
             fail("%s:%lu: %.*s is no event (desk run --help lists them)", path, reader.line, (int)length, word);
-        if (star && (star[1] == '$' || !number_from(star + 1, length - name - 1, SCRIPT_MOST, &times)))
+        if (star && (strspn(star + 1, "0123456789") < length - name - 1 || !number_from(star + 1, length - name - 1, SCRIPT_MOST, &times)))
             fail("%s:%lu: %.*s: how many times? A decimal number up to %d stands after *", path, reader.line,
                  (int)length, word, SCRIPT_MOST);
         if (times > SCRIPT_MOST - script.length)

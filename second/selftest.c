@@ -1,5 +1,6 @@
 /* Worked cases for the second emulator. Every expected value was taken by hand from the documents; the words given to
-   from() name the place: "01" and "003" are the documents, "reading" a settled reading of 01. */
+   from() name the place: "01" and "003" are the documents, "reading" a reading of 01 by its number in
+   docs/DECISIONS.md. */
 #include "instruction.h"
 #include "search.h"
 #include "second.h"

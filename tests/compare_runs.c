@@ -139,7 +139,7 @@ static struct result by_run(runs *run, const struct machine *start, const uint8_
     return result;
 }
 
-/* What a run must come to, put together from single steps (01, Events; readings 16 to 18). */
+/* What a run must come to, put together from single steps (01, Events; docs/DECISIONS.md, readings 16 to 18). */
 static struct result by_steps(steps *step, const struct machine *start, const uint8_t *script, size_t length,
                               uint32_t stop)
 {

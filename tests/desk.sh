@@ -155,6 +155,9 @@ says out 'stopped at $010'
 ends 0 run "$book" "$script" --stop 0x1000
 says out "stopped at the script's end"
 printf 'b=0 c=1 a=1 # called\ncycle*105 a=0' >below.script
+ends 2 run "$book" below.script --state ready.state --save unsaved.state --show --digits 3
+says err '3 digits need 21 elements'
+absent unsaved.state
 ends 0 run "$book" below.script --state ready.state --save below.state --show --digits 2
 says out 'level -1'
 says out '# .'
@@ -176,7 +179,7 @@ ends 0 run "$book" empty.script --save empty.state
 says out '0 of 0 events done'
 ends 0 fresh fresh.state
 same empty.state fresh.state
-for bad in cycles 'cycle*' 'cycle*x' 'cycle*$10' 'cycle*9999999999' 'e=1' 'a=G' 'a=10' '$123' '$G0' '*5' 'a1'; do
+for bad in cycles 'cycle*' 'cycle*x' 'cycle*$10' 'cycle*0x10' 'cycle*9999999999' 'e=1' 'a=G' 'a=10' '$123' '$G0' '*5' 'a1'; do
     printf 'cycle\n%s\n' "$bad" >bad.script
     ends 2 run "$book" bad.script --save never.state
     says err "bad.script:2: $bad"
@@ -376,7 +379,7 @@ ends 2 book check nowhere.book
 ends 2 book check folder
 
 echo "desk: the assembler"
-# assembles TEXT: the program is refused with a line number.
+# Each of these lines is refused, with its number.
 for bad in 'FOO $1' 'LDI $020' 'LDI $080, 1' 'LDI $020, 16' 'STA $400' 'JMP $1000' 'BNZ $800' 'DAA $80' 'RTNW 16, 0' \
     'RTNW 0' 'NOP 5' 'LDA nowhere' 'ORG $1000' 'DW $10000' 'x EQU y' 'a: a: NOP' 'LDI EQU 5' 'STA $020 $021' \
     'JMP 5 -' '5' 'LDA $' 'STA 0 - 1'; do

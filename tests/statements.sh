@@ -19,7 +19,7 @@ for crate in crates/*/; do
         [ -e "$crate/src/main.rt" ] && break
         [ "$module" = lib ] || grep -q "^pub mod $module;" "$crate/src/lib.rt" || continue
         while read -r fn promised; do
-            row="[:\`]$fn\` |"
+            row="^| \`\([A-Za-z0-9_]*::\)*$fn\` | [^\`]"
             if ! printf '%s\n' "$section" | grep -q "$row"; then
                 wrong "$file: $fn has no row in docs/STATEMENTS.md"
             elif [ "$promised" != yes ]; then
@@ -32,7 +32,7 @@ for crate in crates/*/; do
         done < <(awk '
             match($0, /^[ \t]*pub (extern "C" )?fn [a-z_0-9]+/) { fn = substr($0, RSTART, RLENGTH); sub(/.* /, "", fn); has = "no"; head = 1 }
             head && /ensures/ { has = "yes" }
-            head && /^[ \t]*\{[ \t]*$/ { print fn, has; head = 0 }' "$file")
+            head && /\{[ \t]*$/ { print fn, has; head = 0 }' "$file")
     done
     for edit in "$crate"must-fail/*.edit; do
         [ -e "$edit" ] || continue
