@@ -8,6 +8,7 @@ use sh_rules::judge::Judged;
 use sh_state::machine::Machine;
 ghost use mathlib.Core.Path.{_≡_};
 ghost use Rattle.sh_state.specs.State.{state};
+ghost use Rattle.sh_rules.specs.Judge.{stateJudged};
 ghost use Rattle.sh_events.specs.Event.{eventOf};
 ghost use Rattle.answer.specs.Answer.{answered};
 ghost use Rattle.call_step.specs.Step.{toldOf, steppedOf, stepJudgedOf, stepOf};
@@ -59,8 +60,6 @@ fn step_by_judge(program: &[u16], m: Machine, memory: &mut [u8], e: u8) -> Answe
     let j = judge::machine(m, memory);
     step_judged(program, m, memory, e, j)
 }
-
-ghost use Rattle.sh_rules.specs.Judge.{stateJudged};
 
 // One event on a machine, or the lowest refusal; a refusal changes nothing.
 pub fn step(program: &[u16], m: Machine, memory: &mut [u8], e: u8) -> Answer

@@ -33,7 +33,7 @@ use Rattle.book.specs.declared.Parts.{Parts}
 use Rattle.host.specs.Told.{Said, Counted, counted, filled, doneTold, refusedTold, judgedTold, outcomeTold}
 use Rattle.host.specs.Step.{stepped, stepTold}
 use Rattle.host.specs.Run.{Stopped, stopped, stoppedBy, stoppedOf, ran, runTold}
-use Rattle.host.specs.Level.{Levels, levels, levelTold}
+use Rattle.host.specs.Level.{levels, levelTold}
 use Rattle.host.specs.Picture.{drawnTold, pictureTold}
 use Rattle.host.specs.Books.{Found, found, readTold, hostReadOf, writtenTold, bookTold, hostWriteOf}
 
@@ -77,9 +77,6 @@ filled-said n o p = ap (λ k. filled (counted k n) o) p
 
 pub stepped-said : {s t : Said} (l b : List ℕ) → s ≡ t → stepped s l b ≡ stepped t l b
 stepped-said l b p = ap (λ k. stepped k l b) p
-
-pub stopped-said : {s t : Said} (reason events : ℕ) → s ≡ t → stopped s reason events ≡ stopped t reason events
-stopped-said reason events p = ap (λ k. stopped k reason events) p
 
 pub ran-said : {s t : Said} (reason events : ℕ) (l b : List ℕ) → s ≡ t → ran (stopped s reason events) l b ≡ ran (stopped t reason events) l b
 ran-said reason events l b p = ap (λ k. ran (stopped k reason events) l b) p

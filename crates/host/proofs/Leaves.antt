@@ -1,8 +1,7 @@
 -- "A refusal changes no lent byte" (01, the table), at the C boundary: a step, and a run that is not refused by 6, hand back the bytes that came in.
-use mathlib.Core.Path.{_≡_, refl, ap, _∙_}
+use mathlib.Core.Path.{_≡_, refl, ap}
 use mathlib.Core.List.{List}
 use Prim.Native.Nat.{ℕ, _<_}
-use native.Mathlib.Omega.{arith}
 use lib.ListN.{length}
 use Rattle.lent.specs.Lent.{at}
 use Rattle.lent.proofs.Laws.{by-eq}
@@ -10,11 +9,10 @@ use Rattle.refusal.specs.declared.Refusal.{Refusal}
 use Rattle.refusal.specs.Refusal.{numberOf}
 use Rattle.sh_state.specs.State.{State, state}
 use Rattle.answer.specs.declared.Outcome.{Outcome}
-use Rattle.answer.specs.Answer.{Answered, answered}
-use Rattle.call_step.specs.Step.{stepOf}
+use Rattle.answer.specs.Answer.{answered}
 use Rattle.call_step.proofs.Leaves as step
 use Rattle.call_run.specs.declared.Reason.{Reason}
-use Rattle.call_run.specs.Run.{RunAnswered, runAnswered, runCallOf}
+use Rattle.call_run.specs.Run.{RunAnswered, runAnswered}
 use Rattle.call_run.proofs.Leaves as run
 use Rattle.wire.specs.Record.{recordOf, bytesOf}
 use Rattle.wire.specs.Words.{wordsOf}

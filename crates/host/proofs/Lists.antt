@@ -30,7 +30,7 @@ from-within a (w ∷ p) c =
     by-test (λ (l : List ℕ). length l ≤ suc (length p)) (writesOf w c) _ _ (λ _. omega arith) (λ _. omega arith)
 
 -- a list of addresses of a program is no longer than the program
-pub list-within : (p : List ℕ) (c : ℕ) → length (writersOf p c) ≤ length p
+list-within : (p : List ℕ) (c : ℕ) → length (writersOf p c) ≤ length p
 unfolding writersOf
 list-within p c = from-within 0 p c
 
@@ -48,7 +48,7 @@ reason-of e = cc
 
 -- What an answer says, where a room o was lent and t is what it holds after the call.
 module _ (p : List ℕ) (c : ℕ) (o t : List ℕ) where
-  pub counted-is : (n : ℕ) → outcome (Count n) t ≡ listOf p c o → (askableOf c ≡ true) × (n ≡ length (writersOf p c)) × (t ≡ over (writersOf p c) o)
+  counted-is : (n : ℕ) → outcome (Count n) t ≡ listOf p c o → (askableOf c ≡ true) × (n ≡ length (writersOf p c)) × (t ≡ over (writersOf p c) o)
   unfolding listOf filledOf
   counted-is n =
       let Says : Outcome Listed → Type 0 = λ r. outcome (Count n) t ≡ r → (askableOf c ≡ true) × (n ≡ length (writersOf p c)) × (t ≡ over (writersOf p c) o) in
@@ -59,7 +59,7 @@ module _ (p : List ℕ) (c : ℕ) (o t : List ℕ) where
       (λ a e. apart (answers e)))
       (λ h e. apart (answers e))
 
-  pub refused-is : (why : Refusal) → length p ≡ 4096 → length o ≡ 4096 → outcome (Refused why) t ≡ listOf p c o → (askableOf c ≡ false) × (why ≡ NotAskable c)
+  refused-is : (why : Refusal) → length p ≡ 4096 → length o ≡ 4096 → outcome (Refused why) t ≡ listOf p c o → (askableOf c ≡ false) × (why ≡ NotAskable c)
   unfolding listOf filledOf
   refused-is why f g =
       let Says : Outcome Listed → Type 0 = λ r. outcome (Refused why) t ≡ r → (askableOf c ≡ false) × (why ≡ NotAskable c) in
@@ -71,7 +71,7 @@ module _ (p : List ℕ) (c : ℕ) (o t : List ℕ) where
       (λ h e. absurd (h f))
 
   -- the first entries of the room, as many as are told, are the list
-  pub counted-bytes : (n : ℕ) → outcome (Count n) t ≡ listOf p c o → pairsOf t n ≡ pairsOf (writersOf p c) (length (writersOf p c))
+  counted-bytes : (n : ℕ) → outcome (Count n) t ≡ listOf p c o → pairsOf t n ≡ pairsOf (writersOf p c) (length (writersOf p c))
   unfolding over
   counted-bytes n e =
       let k = counted-is n e in

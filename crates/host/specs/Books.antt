@@ -1,4 +1,4 @@
--- book_read and book_write, for C: where the bodies lie, how many bytes were written, or what stood there where it is refused.
+-- book_read and book_write, for C (01, "Panel book"): where the bodies lie, how many bytes were written, or what stood there where it is refused.
 use Prim.Native.Nat.{ℕ}
 use mathlib.Core.List.{List}
 use Rattle.book.specs.declared.Parts.{Parts}

@@ -1,4 +1,4 @@
--- fresh, for C: 2, 4 for record bytes that are not 37, 12; a refusal leaves memory and record.
+-- fresh, for C (01, "Reset"): 2, 4 for record bytes that are not 37, 12; a refusal leaves memory and record.
 use Prim.Native.Nat.{ℕ}
 use mathlib.Core.List.{List}
 use lib.Dec.{ltb, eqb}

@@ -1,4 +1,4 @@
--- level, for C: the level, or what stood there where it is refused.
+-- level, for C (01, "Panel book"): the level, or what stood there where it is refused.
 use Prim.Native.Nat.{ℕ}
 use lib.IntN.{ℤ}
 use mathlib.Core.List.{List}

@@ -1,4 +1,4 @@
--- picture, for C: how many elements were written, or what stood there where it is refused.
+-- picture, for C (01, "Panel book"): how many elements were written, or what stood there where it is refused.
 use Prim.Native.Nat.{ℕ}
 use mathlib.Core.List.{List}
 use lib.Dec.{eqb}

@@ -1,4 +1,4 @@
--- run, for C: as step, and its reason and how many events were done; these two outs keep what stood there where there is nothing to tell.
+-- run, for C (01, "What is lent", "A run stops .."): as step, and its reason and how many events were done; these two outs keep what stood there where there is nothing to tell.
 use Prim.Native.Nat.{ℕ}
 use mathlib.Core.List.{List}
 use lib.Dec.{eqb}

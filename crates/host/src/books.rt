@@ -4,8 +4,8 @@ use book::Parts;
 use book::Reading;
 use book_write::Written;
 ghost use mathlib.Core.Path.{_≡_};
-ghost use Rattle.host.specs.Told.{said, doneTold, counted, filled};
-ghost use Rattle.host.specs.Books.{places, found, readTold, hostReadOf, writtenTold, bookTold, hostWriteOf};
+ghost use Rattle.host.specs.Told.{said, counted, filled};
+ghost use Rattle.host.specs.Books.{places, found, readTold, hostReadOf, writtenTold, hostWriteOf};
 
 fn put(
     p: Parts,

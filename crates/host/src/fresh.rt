@@ -34,7 +34,7 @@ pub extern "C" fn galhoveia_fresh(
     if memory.len() != Machine::CELLS {
         return told::refused(Refusal::MemoryLength(memory.len() as u64), value);
     }
-    if bytes.len() != 37 {
+    if bytes.len() != record::BYTES {
         return told::refused(Refusal::Record, value);
     }
     if options < 8 {

@@ -46,7 +46,7 @@ pub extern "C" fn galhoveia_list(
 ) -> u32
     ensures { λ r. ⌜ filled (counted (said r (now (value .exit))) (now (count .exit))) (now (room .exit)) ≡ hostListOf (now (program .entry)) cell (now (room .entry)) (now (count .entry)) ⌝ }
 {
-    if program.len() != 8192 {
+    if program.len() != words::PROGRAM {
         return told::refused(Refusal::ProgramLength(program.len() as u64), value);
     }
     asked(program, cell, room, count, value)

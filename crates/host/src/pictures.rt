@@ -45,7 +45,7 @@ pub extern "C" fn galhoveia_picture(
 ) -> u32
     ensures { λ r. ⌜ filled (counted (said r (now (value .exit))) (now (count .exit))) (now (room .exit)) ≡ hostPictureOf (now (memory .entry)) (now (bytes .entry)) (now (wiring .entry)) (now (room .entry)) (now (count .entry)) ⌝ }
 {
-    if bytes.len() != 37 {
+    if bytes.len() != record::BYTES {
         return told::short(memory, value);
     }
     drawn(memory, bytes, wiring, room, count, value)

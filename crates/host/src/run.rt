@@ -79,10 +79,10 @@ pub extern "C" fn galhoveia_run(
 ) -> u32
     ensures { λ r. ⌜ ran (stopped (said r (now (value .exit))) (now (reason .exit)) (now (events .exit))) (now (memory .exit)) (now (bytes .exit)) ≡ hostRunOf (now (program .entry)) (now (memory .entry)) (now (bytes .entry)) (now (script .entry)) stop (now (reason .entry)) (now (events .entry)) ⌝ }
 {
-    if program.len() != 8192 {
+    if program.len() != words::PROGRAM {
         return told::refused(Refusal::ProgramLength(program.len() as u64), value);
     }
-    if bytes.len() != 37 {
+    if bytes.len() != record::BYTES {
         return told::short(memory, value);
     }
     done(program, memory, bytes, script, stop, reason, events, value)

@@ -36,10 +36,10 @@ pub extern "C" fn galhoveia_step(
 ) -> u32
     ensures { λ r. ⌜ stepped (said r (now (value .exit))) (now (memory .exit)) (now (bytes .exit)) ≡ hostStepOf (now (program .entry)) (now (memory .entry)) (now (bytes .entry)) event ⌝ }
 {
-    if program.len() != 8192 {
+    if program.len() != words::PROGRAM {
         return told::refused(Refusal::ProgramLength(program.len() as u64), value);
     }
-    if bytes.len() != 37 {
+    if bytes.len() != record::BYTES {
         return told::short(memory, value);
     }
     done(program, memory, bytes, event, value)

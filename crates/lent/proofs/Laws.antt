@@ -7,7 +7,7 @@ use native.Mathlib.Omega.{arith}
 use native.Mathlib.Nat.{zero-add}
 use native.Mathlib.Numerals.{add-one}
 use lib.Dec.{ltb, eqb}
-use lib.ListN.{length, getD, take, drop, set, replicate, drop-of-length-le, length-append, length-drop, List·getD-eq-default}
+use lib.ListN.{length, take, drop, set, replicate, drop-of-length-le, length-append, length-drop, List·getD-eq-default}
 use lib.Seq.{drop-cons, set-out, take-suc-set, drop-set-lt, take-all, append-snoc, take-length, take-append-seam, drop-append-add, drop-drop, paste}
 use borrow.Author.Tests.{le-ltb, ltb-true, ltb-false, eqb-true, eqb-false}
 use Rattle.lent.specs.Lent.{pick, both, at, pairAtOf, pairSetOf, pastedOf, mapFrom}

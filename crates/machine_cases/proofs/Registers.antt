@@ -1,11 +1,10 @@
 -- Every register of 003's map, and the edges of the other kinds of cells: what it holds and what it reads as after 15 and then 0 are written, by hand from 003, 3.2, and 01, and computed from the definitions.
 use Prim.Native.Nat.{ℕ}
-use mathlib.Core.Bool.{Bool, true, false}
+use mathlib.Core.Bool.{Bool, true}
 use mathlib.Core.List.{List, [], _∷_}
-use lib.Bits.{bitAnd, bitOr}
 use lib.Dec.{T, eqb}
 use lib.ListN.{replicate, set}
-use Rattle.lent.specs.Lent.{pick, at, both}
+use Rattle.lent.specs.Lent.{at, both}
 use Rattle.sh_map.specs.Map.{kindOf, heldOf, heldIn, writtenOf, writtenIn, registerBits, registerWritten}
 use Rattle.sh_periods.specs.Periods.{periodOf, periods}
 use Rattle.sh_state.specs.Record.{freshOf, setPinA, setPinB, setPinC, setPinD, setCounter, setLoad, setPrescaler, setBasePrescaler, setBaseCounter, setWatchdog, setPending}

@@ -4,7 +4,7 @@ use lib.IntN.{pos, negℤ}
 use Rattle.word.specs.declared.Operation.the-variants.{Adc, Sub}
 use Rattle.word.specs.declared.ImmediateOperation.the-variants.{Adim, Sbim, Andim}
 use Rattle.word.specs.declared.Instruction.the-variants.{Accumulator, Sta, Immediate, Daa, Das, Rtnw, Tjmp, Nop}
-use Rattle.numbers.specs.Row.{Place, Fact, Word, Row}
+use Rattle.numbers.specs.Row.{Place, Row}
 use Rattle.numbers.specs.Row.Place.{PC, AC, CY, Cell}
 use Rattle.numbers.specs.Row.Fact.{_is_}
 use Rattle.numbers.specs.Row.Word.{_has_}

@@ -1,6 +1,5 @@
 -- The base timer (003, 8; 01, "Events": Base). Its mode is $003.
 use Prim.Native.Nat.{ℕ, _+_}
-use mathlib.Core.Bool.{Bool, true, false}
 use lib.Dec.{ltb, eqb}
 use Rattle.lent.specs.Lent.{pick}
 use Rattle.sh_state.specs.declared.machine.Machine.{Machine}

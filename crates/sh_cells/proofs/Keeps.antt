@@ -8,16 +8,11 @@ use Rattle.lent.specs.Lent.{at}
 use Rattle.lent.proofs.Laws.{by-eq}
 use Rattle.sh_map.specs.declared.map.Kind.{Kind}
 use Rattle.sh_map.specs.declared.map.Kind.the-variants.{Register, Data, Display, Scan, Sound, Unmapped}
-use Rattle.sh_map.specs.Map.{kindOf, registerBits, heldIn, heldOf}
+use Rattle.sh_map.specs.Map.{kindOf}
 use Rattle.sh_periods.specs.Periods.{periodOf}
 use Rattle.sh_state.specs.State.{State, state}
-use Rattle.sh_rules.proofs.Fits.{Fit, MemoryFit, period-positive, cell-held, cell-small, watchdog-fits}
-use Rattle.sh_cells.specs.Cells.{pointedOf, targetOf, portOf, plainIn, plainOf, valueOf, restartedOf, seenOf, readOf}
-
-pub target-small : {s : State} → Fit s → (x : ℕ) → x < 1024 → targetOf (s .memory) x < 1024
-unfolding targetOf pointedOf heldOf heldIn kindOf registerBits
-target-small {s} f x h =
-    by-eq (λ a. a < 1024) x 0x0F _ _ (λ e. omega (arith, cell-held (f .memory) 0x12, cell-held (f .memory) 0x11, cell-held (f .memory) 0x10)) (λ n. h)
+use Rattle.sh_rules.proofs.Fits.{Fit, MemoryFit, period-positive, cell-small, watchdog-fits}
+use Rattle.sh_cells.specs.Cells.{portOf, plainIn, plainOf, valueOf, restartedOf, seenOf, readOf}
 
 port-small : (pin latch control : ℕ) → pin < 16 → latch < 16 → portOf pin latch control < 16
 unfolding portOf

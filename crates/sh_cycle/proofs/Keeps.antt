@@ -1,10 +1,9 @@
 -- A cycle keeps a well-formed machine well formed, whatever the program.
 use mathlib.Core.Path.{_≡_, refl}
-use mathlib.Core.Bool.{Bool, true, false}
 use mathlib.Core.List.{List}
 use Prim.Native.Nat.{ℕ}
 use native.Mathlib.Omega.{arith}
-use Rattle.lent.specs.Lent.{pick, at}
+use Rattle.lent.specs.Lent.{at}
 use Rattle.lent.proofs.Laws.{by-choice, by-eq}
 use Rattle.word.specs.declared.Decoded.{Decoded}
 use Rattle.word.specs.declared.Decoded.the-variants.{Listed, Refused}

@@ -9,6 +9,10 @@ ghost use mathlib.Core.Path.{_≡_};
 ghost use lib.ListN.{set};
 ghost use Rattle.sh_state.specs.State.{state};
 ghost use Rattle.sh_cycle.specs.Cycle.{happened, readTakenOf, wokenOf, wordInOf, landedOf, clockOf, finishedOf, executedOf, instructedOf, interruptCycleOf, awakeCycleOf, asleepCycleOf, cycleDueOf, cycleOf};
+ghost use Prim.Native.Nat.{_/_, _%_};
+ghost use Rattle.lent.specs.Lent.{at};
+ghost use Rattle.word.specs.Word.{decodeOf};
+ghost use mathlib.Core.Bool.{false};
 
 // An event's outcome: stuck before an unlisted word with nothing changed, or done.
 pub struct Outcome {
@@ -49,8 +53,6 @@ fn high_in(memory: &mut [u8], w: u16)
     map::store(memory, 0x1D, (w / 4096 % 16) as u8);
 }
 
-ghost use Prim.Native.Nat.{_/_, _%_};
-
 fn word_in(memory: &mut [u8], w: u16)
     ensures { λ r. ⌜ now (memory .exit) ≡ wordInOf (now (memory .entry)) w ⌝ }
 {
@@ -64,8 +66,6 @@ fn word_from(program: &[u16], a: u16, memory: &mut [u8])
     let w = lent::fetch(program, a as usize);
     word_in(memory, w);
 }
-
-ghost use Rattle.lent.specs.Lent.{at};
 
 // (d)
 fn landed(program: &[u16], start: Machine, memory: &mut [u8])
@@ -127,9 +127,6 @@ fn instruction_cycle(program: &[u16], m: Machine, memory: &mut [u8]) -> Outcome
         word::decode(lent::fetch(program, pc as usize)),
     )
 }
-
-ghost use Rattle.word.specs.Word.{decodeOf};
-ghost use mathlib.Core.Bool.{false};
 
 // (b)
 fn interrupt_cycle(program: &[u16], m: Machine, memory: &mut [u8], due: u8) -> Outcome

@@ -1,6 +1,5 @@
 -- An event that is stuck before an unlisted word has changed nothing: only the cycle can be.
 use mathlib.Core.Path.{_≡_}
-use mathlib.Core.Bool.{true}
 use mathlib.Core.List.{List}
 use Prim.Native.Nat.{ℕ}
 use lib.Dec.{eqb}

@@ -3,8 +3,7 @@ use Prim.Native.Nat.{ℕ, _*_, _/_, _%_}
 use mathlib.Core.List.{List}
 use lib.Dec.{eqb}
 use Rattle.lent.specs.Lent.{pick, at}
-use Rattle.sh_state.specs.declared.machine.Machine.{Machine}
-use Rattle.sh_state.specs.Record.{setPinA, setPinB, setPinC, setPinD}
+use Rattle.sh_state.specs.Record.{setPinA, setPinB, setPinC}
 use Rattle.sh_state.specs.State.{State, state}
 use Rattle.sh_timers.specs.Request.{requestedOf}
 use Rattle.sh_timers.specs.Timer0.{fallenOf}

@@ -8,6 +8,8 @@ ghost use mathlib.Core.Path.{_≡_};
 ghost use Rattle.sh_state.specs.Record.{setPinA, setPinB, setPinC, setPinD};
 ghost use Rattle.sh_state.specs.State.{state};
 ghost use Rattle.sh_events.specs.Ports.{externalOf, fallingOf, portAOf, portRequestOf, portEdgesOf, portBOf, portCOf};
+ghost use Rattle.lent.specs.Lent.{at};
+ghost use Rattle.sh_timers.specs.Timer0.{fallenOf};
 
 fn external(m: Machine, memory: &[u8], pins: u8) -> u8
     ensures { λ r. ⌜ r ≡ externalOf (state m (now (memory .entry))) pins ⌝ }
@@ -69,9 +71,6 @@ fn fallen_a(m: Machine, memory: &[u8], pins: u8) -> request::Moved
         falling(m, memory, pins),
     )
 }
-
-ghost use Rattle.lent.specs.Lent.{at};
-ghost use Rattle.sh_timers.specs.Timer0.{fallenOf};
 
 // The pins of port A.
 pub fn port_a(m: Machine, memory: &mut [u8], pins: u8) -> Machine

@@ -1,6 +1,6 @@
 -- One instruction on the machine (003, section 17; 01, "One instruction"). Decoding keeps every field in its range.
 use Prim.Native.Nat.{ℕ, _+_, _*_, _/_, _%_}
-use mathlib.Core.Bool.{Bool, true, false, not}
+use mathlib.Core.Bool.{Bool, not}
 use lib.Dec.{eqb}
 use lib.ListN.{set}
 use Rattle.lent.specs.Lent.{pick, at}

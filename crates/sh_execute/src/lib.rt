@@ -8,7 +8,7 @@ use word::ImmediateOperation;
 use word::Instruction;
 use word::Operation;
 ghost use mathlib.Core.Path.{_≡_};
-ghost use Rattle.sh_state.specs.Record.{setPc};
+ghost use Rattle.sh_state.specs.Record.{setPc, setAc, setCy, setMode};
 ghost use Rattle.sh_state.specs.State.{state};
 ghost use Rattle.sh_execute.specs.Execute.{nextOf, withinOf, onwardOf, tookOf, putOf, accumulatedOf, storedOf, loadOf, accumulatorFormOf, memoryFormOf, ldaOf, staOf, ldiOf, withImmediateOf, storedImmediateOf, immediateFormOf, daaOf, dasOf, takenOf, branchIfOf, branchOf, callOf, rtnwOf, rtniOf, restOf, shrOf, tjmpOf, executeOf};
 
@@ -42,8 +42,6 @@ fn with_ac_cy(m: Machine, ac: u8, cy: u8) -> Machine
     n.cy = cy;
     n
 }
-
-ghost use Rattle.sh_state.specs.Record.{setAc, setCy, setMode};
 
 fn onward(m: Machine) -> Machine
     ensures { λ r. ⌜ r ≡ onwardOf m ⌝ }

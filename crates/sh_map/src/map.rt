@@ -2,7 +2,7 @@
 ghost use mathlib.Core.Path.{_≡_};
 ghost use Rattle.lent.specs.Lent.{at};
 ghost use lib.ListN.{set};
-ghost use Rattle.sh_map.specs.Map.{kindOf, heldIn, heldOf, writtenIn, writtenOf, askableIn, askableOf, displayIn, displayOf};
+ghost use Rattle.sh_map.specs.Map.{kindOf, heldIn, heldOf, writtenIn, writtenOf, askableIn, askableOf, displayIn, displayOf, registerBits, registerWritten};
 
 pub enum Kind {
     Register,
@@ -127,8 +127,6 @@ pub fn kind_at(a: u16) -> Kind
     }
     Kind::Unmapped
 }
-
-ghost use Rattle.sh_map.specs.Map.{registerBits, registerWritten};
 
 fn register_bits(a: u16) -> u8
     ensures { λ r. ⌜ r ≡ at registerBits a ⌝ }

@@ -1,6 +1,5 @@
 -- Edges of a port's pins (003, 6; 01, "Edges": only on input bits, HOUSE).
 use Prim.Native.Nat.{ℕ, _+_, _*_, _/_, _%_}
-use mathlib.Core.Bool.{Bool, true, false}
 use lib.Dec.{eqb}
 use Rattle.lent.specs.Lent.{pick}
 

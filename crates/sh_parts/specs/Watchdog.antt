@@ -1,6 +1,6 @@
 -- The watchdog (003, 9; 01, "Events": Watchdog): a pulse a millisecond, in every mode, when bit 0 of the options is 1.
 use Prim.Native.Nat.{ℕ, _-_, _%_}
-use mathlib.Core.Bool.{Bool, true, false}
+use mathlib.Core.Bool.{Bool, false}
 use lib.Dec.{ltb, eqb}
 use Rattle.lent.specs.Lent.{pick}
 use Rattle.sh_state.specs.declared.machine.Machine.{Machine}

@@ -3,11 +3,10 @@ use mathlib.Core.Path.{_≡_, _∙_, refl, ap, sym}
 use Prim.Native.Nat.{ℕ, zero, suc, _-_, _≤_, _<_}
 use native.Mathlib.Omega.{arith}
 use lib.Bits.{bitAnd, or-zero-r}
-use lib.ListN.{replicate, getD}
+use lib.ListN.{replicate}
 use borrow.Author.Tests.{ne-eqb}
 use Rattle.lent.specs.Lent.{at}
 use Rattle.sh_map.specs.declared.map.Kind.{Kind}
-use Rattle.sh_map.specs.Map.{kindOf}
 use Rattle.sh_map.proofs.Laws.{kind-past}
 use Rattle.sh_reset.specs.declared.reset.Column.{Column}
 use Rattle.sh_reset.specs.declared.reset.Column.the-variants.{Pin, Watchdog}

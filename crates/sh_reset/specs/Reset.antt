@@ -1,6 +1,5 @@
 -- Resets: 003's table 3.3, its two columns, and the HOUSE lines of 01, "Reset".
 use Prim.Native.Nat.{ℕ, _/_, _%_}
-use mathlib.Core.Bool.{Bool, true, false}
 use mathlib.Core.List.{List, [], _∷_}
 use lib.Dec.{eqb}
 use lib.Bits.{bitAnd, bitOr}

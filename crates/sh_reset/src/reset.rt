@@ -6,6 +6,8 @@ ghost use mathlib.Core.Path.{_≡_};
 ghost use Rattle.lent.specs.Lent.{at};
 ghost use Rattle.sh_state.specs.State.{state};
 ghost use Rattle.sh_reset.specs.Reset.{registerStays, soundStays, staysIn, risesOf, setsOf, resetCellOf, resetMemoryOf, pinsOf, resetRecordOf, resetOf};
+ghost use Rattle.sh_reset.specs.declared.reset.Column.the-variants.{Pin, Watchdog};
+ghost use Prim.Native.Nat.{_%_};
 
 // The two columns of the data sheet's table 3.3.
 pub enum Column {
@@ -60,8 +62,6 @@ fn register_stays_by_watchdog(a: u16) -> u8
     0
 }
 
-ghost use Rattle.sh_reset.specs.declared.reset.Column.the-variants.{Pin, Watchdog};
-
 fn register_stays(column: Column, a: u16) -> u8
     ensures { λ r. ⌜ r ≡ at (registerStays column) a ⌝ }
 {
@@ -86,8 +86,6 @@ fn sound_stays(column: Column, a: u16) -> u8
         Column::Watchdog => sound_stays_by_watchdog(a),
     }
 }
-
-ghost use Prim.Native.Nat.{_%_};
 
 fn stays_in(k: Kind, column: Column, a: u16) -> u8
     ensures { λ r. ⌜ r ≡ staysIn k column a ⌝ }

@@ -13,7 +13,6 @@ use borrow.Author.Tests.{ltb-true, ltb-false, leb-true, eqb-true, eqb-false, lt-
 use Rattle.lent.specs.Lent.{pick, both, at}
 use Rattle.lent.proofs.Laws.{both-true, test, by-eq, at-past}
 use Rattle.refusal.specs.declared.Refusal.the-variants as refusal
-use Rattle.sh_rules.specs.declared.judge.Judged.{Judged}
 use Rattle.sh_rules.specs.declared.judge.Judged.the-variants.{Fine, Refused}
 use Rattle.sh_state.specs.declared.machine.Machine.{Machine}
 use Rattle.sh_map.specs.declared.map.Kind.{Kind}

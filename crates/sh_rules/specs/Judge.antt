@@ -1,11 +1,9 @@
 -- What a memory and a record beside it are turned down for (01, the table: 2, 3, 4, the lowest number first).
-use mathlib.Core.Bool.{Bool, true, false}
 use mathlib.Core.List.{List}
 use Prim.Native.Nat.{ℕ}
 use lib.Dec.{eqb}
 use lib.ListN.{length}
 use Rattle.lent.specs.Lent.{pick}
-use Rattle.refusal.specs.declared.Refusal.{Refusal}
 use Rattle.refusal.specs.declared.Refusal.the-variants as refusal
 use Rattle.sh_rules.specs.declared.judge.Judged.{Judged}
 use Rattle.sh_rules.specs.declared.judge.Judged.the-variants.{Fine, Refused}

@@ -1,6 +1,6 @@
 -- The rules of a memory and of a record beside it (01, "What is lent"): a part for each.
 use Prim.Native.Nat.{ℕ, _+_, _/_, _%_}
-use mathlib.Core.Bool.{Bool, true, false}
+use mathlib.Core.Bool.{Bool, false}
 use mathlib.Core.List.{List, [], _∷_}
 use lib.Dec.{ltb, leb, eqb}
 use lib.Bits.{bitAnd}

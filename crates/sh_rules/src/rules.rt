@@ -4,7 +4,7 @@ use sh_map::map;
 use sh_state::machine::Machine;
 ghost use mathlib.Core.Path.{_≡_};
 ghost use Rattle.sh_state.specs.State.{state};
-ghost use Rattle.sh_rules.specs.Rules.{cellFits, brokenFrom, cpuFits, stackFits, timer0Fits, baseFits, watchdogFits, bytesFit, pinsFit, optionsFit, pendingFits, wellFormedOf};
+ghost use Rattle.sh_rules.specs.Rules.{cellFits, brokenFrom, cpuFits, stackFits, timer0Fits, baseFits, watchdogFits, bytesFit, pinsFit, optionsFit, pendingFits, wellFormedOf, tiesFit};
 
 // Whether a byte has no bit but those that the cell at an address holds.
 fn cell_fits(a: usize, v: u8) -> bool
@@ -155,8 +155,6 @@ fn ties_fit(m: Machine, memory: &[u8]) -> bool
     let options = options_fit(m, map::cell(memory, 0x0C));
     lent::both(timer0, lent::both(base, lent::both(watchdog, options)))
 }
-
-ghost use Rattle.sh_rules.specs.Rules.{tiesFit};
 
 // Whether a record fits its memory.
 pub fn well_formed(m: Machine, memory: &[u8]) -> bool

@@ -1,9 +1,7 @@
 -- Running a script is running its front and then, where that ended by its end, its rest.
 use mathlib.Core.Path.{_≡_, refl}
-use mathlib.Core.Bool.{Bool, true, false}
 use mathlib.Core.List.{List, [], _∷_, _++_}
 use Prim.Native.Nat.{ℕ, _+_}
-use Rattle.lent.specs.Lent.{pick}
 use Rattle.lent.proofs.Laws.{test}
 use Rattle.sh_state.specs.State.{State}
 use Rattle.sh_events.specs.Event.{eventOf}

@@ -1,12 +1,11 @@
 -- A run: the events of a script, one after the other, and why it stops (01, "A run stops ..").
 use Prim.Native.Nat.{ℕ, _+_}
-use mathlib.Core.Bool.{Bool, true, false}
+use mathlib.Core.Bool.{Bool, false}
 use mathlib.Core.List.{List, [], _∷_}
 use lib.Dec.{ltb, eqb}
 use Rattle.lent.specs.Lent.{pick}
 use Rattle.sh_state.specs.declared.machine.Machine.{Machine}
 use Rattle.sh_state.specs.State.{State}
-use Rattle.sh_cycle.specs.Cycle.{Happened}
 use Rattle.sh_events.specs.Event.{eventOf}
 use Rattle.sh_run.specs.declared.Stop.{Stop}
 use Rattle.sh_run.specs.declared.Stop.the-variants as stop

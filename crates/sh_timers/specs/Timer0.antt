@@ -1,6 +1,5 @@
 -- Timer0 (003, 7; 01, "Events": Timer0). Its mode is $002.
 use Prim.Native.Nat.{ℕ, _+_, _/_, _%_}
-use mathlib.Core.Bool.{Bool, true, false}
 use lib.Dec.{ltb, eqb}
 use Rattle.lent.specs.Lent.{pick}
 use Rattle.sh_state.specs.declared.machine.Machine.{Machine}

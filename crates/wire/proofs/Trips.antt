@@ -21,7 +21,7 @@ spread-is (suc n) i l h =
     ap (λ (t : List ℕ). getD l i 0 ∷ t) (spread-is n (suc i) l (omega arith)) ∙ sym (drop-cons l i 0 (omega arith))
 
 -- a list of n is its n entries: at a numeral n the left side computes to them
-pub spread-all : (n : ℕ) (l : List ℕ) → length l ≡ n → spread n 0 l ≡ l
+spread-all : (n : ℕ) (l : List ℕ) → length l ≡ n → spread n 0 l ≡ l
 spread-all n l h = spread-is n 0 l (omega arith)
 
 -- each word of the record fits two bytes, and the stack has eight entries

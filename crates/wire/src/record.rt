@@ -6,6 +6,8 @@ ghost use Rattle.lent.specs.Lent.{pastedOf};
 ghost use Rattle.wire.specs.Record.{bytesOf, recordOf};
 ghost use Rattle.wire.specs.Words.{pairsOf};
 
+pub const BYTES: usize = 37;
+
 // The record that bytes say; what is missing reads as 0.
 pub fn record_of(s: &[u8]) -> Machine
     ensures { λ r. ⌜ r ≡ recordOf (now (s .entry)) ⌝ }
@@ -54,7 +56,7 @@ fn stack_bytes(s: [u16; 8]) -> [u8; 16]
 }
 
 // The bytes of a record.
-pub fn bytes_of(m: Machine) -> [u8; 37]
+pub fn bytes_of(m: Machine) -> [u8; BYTES]
     ensures { λ r. ⌜ r ≡ bytesOf m ⌝ }
 {
     let levels = m.stack;

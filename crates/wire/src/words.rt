@@ -3,6 +3,9 @@ ghost use mathlib.Core.Path.{_≡_};
 ghost use Rattle.lent.specs.Lent.{pastedOf};
 ghost use Rattle.wire.specs.Words.{wordsOf, pairsOf};
 
+// A program as bytes.
+pub const PROGRAM: usize = 8192;
+
 // The program's words out of its body; what is missing reads as 0.
 pub fn words_of(body: &[u8]) -> [u16; 4096]
     ensures { λ r. ⌜ r ≡ wordsOf (now (body .entry)) 4096 ⌝ }

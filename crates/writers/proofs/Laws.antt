@@ -1,5 +1,5 @@
 -- What a match leaves, and the list of writers as a loop over the program counts it and stores it.
-use mathlib.Core.Path.{_≡_, _∙_, refl, ap, sym}
+use mathlib.Core.Path.{_≡_, _∙_, ap, sym}
 use mathlib.Core.Bool.{Bool, true, false}
 use mathlib.Core.List.{List, [], _∷_, _++_}
 use Prim.Native.Nat.{ℕ, suc, _+_, _<_, _≤_}
@@ -8,7 +8,7 @@ use native.Mathlib.Numerals.{add-one}
 use native.Mathlib.Omega.{arith}
 use lib.ListN.{length, take, drop, set, drop-of-length-le, take-append-drop}
 use lib.Seq.{take-suc-set, drop-set-lt, append-snoc}
-use Rattle.lent.specs.Lent.{over, pick, both, at}
+use Rattle.lent.specs.Lent.{over, both, at}
 use Rattle.lent.proofs.Laws.{drop-more}
 use Rattle.word.specs.declared.Decoded.{Decoded}
 use Rattle.word.specs.declared.ImmediateOperation.{ImmediateOperation}

@@ -1,5 +1,5 @@
 -- `call_run::run`: the program's length first.
-use borrow.Author.Tests.{lt-ltb, le-ltb, eq-eqb, ne-eqb}
+use borrow.Author.Tests.{eq-eqb, ne-eqb}
 use Rattle.call_run.specs.Run.{runCallOf}
 use borrow.Author.Needs.{needs}
 use Rattle.call_run.proofs.run.Statement.{statement}

@@ -1,11 +1,11 @@
 -- `lent::paste`: the loop's invariant is that the first k bytes are copied, and where they do not all fit no turn is taken.
 use Prim.Native.Nat.{ℕ, _+_, _-_, _≤_}
-use mathlib.Core.Path.{_≡_, _∙_, refl, sym, ap}
+use mathlib.Core.Path.{_≡_, _∙_, refl}
 use mathlib.Core.List.{List}
 use native.Mathlib.Omega.{arith}
 use native.Mathlib.Numerals.{add-one}
 use lib.ListN.{length, set, getD, length-set}
-use lib.Seq.{paste, paste-zero, paste-suc, length-paste}
+use lib.Seq.{paste, paste-zero, paste-suc}
 use borrow.Author.Tests.{lt-ltb}
 use Rattle.lent.specs.Lent.{pastedOf}
 use Rattle.lent.proofs.Laws.{pasted-fits}

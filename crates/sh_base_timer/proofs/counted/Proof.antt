@@ -1,5 +1,5 @@
 -- `sh_base_timer::counted`: the same test.
-use borrow.Author.Tests.{lt-ltb, le-ltb, eq-eqb, ne-eqb}
+use borrow.Author.Tests.{lt-ltb, le-ltb}
 use Rattle.sh_base_timer.specs.BaseTimer.{baseCountedOf}
 use borrow.Author.Needs.{needs}
 use Rattle.sh_base_timer.proofs.counted.Statement.{statement}

@@ -1,5 +1,5 @@
 -- `sh_base_timer::prescaled_by`: the same test.
-use borrow.Author.Tests.{lt-ltb, le-ltb, eq-eqb, ne-eqb}
+use borrow.Author.Tests.{lt-ltb, le-ltb}
 use Rattle.sh_base_timer.specs.BaseTimer.{basePrescaledBy}
 use borrow.Author.Needs.{needs}
 use Rattle.sh_base_timer.proofs.prescaled_by.Statement.{statement}

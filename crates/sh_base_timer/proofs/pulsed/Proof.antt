@@ -1,5 +1,5 @@
 -- `sh_base_timer::pulsed`: the same tests in the same order.
-use borrow.Author.Tests.{lt-ltb, le-ltb, eq-eqb, ne-eqb}
+use borrow.Author.Tests.{eq-eqb, ne-eqb}
 use Rattle.sh_base_timer.specs.BaseTimer.{basePulsedOf}
 use borrow.Author.Needs.{needs}
 use Rattle.sh_base_timer.proofs.pulsed.Statement.{statement}

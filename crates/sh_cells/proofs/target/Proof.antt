@@ -1,5 +1,5 @@
 -- `sh_cells::target`: the same test.
-use borrow.Author.Tests.{lt-ltb, le-ltb, eq-eqb, ne-eqb}
+use borrow.Author.Tests.{eq-eqb, ne-eqb}
 use Rattle.sh_cells.specs.Cells.{targetOf}
 use borrow.Author.Needs.{needs}
 use Rattle.sh_cells.proofs.target.Statement.{statement}

@@ -1,5 +1,5 @@
 -- `sh_cells::value`: the same tests in the same order.
-use borrow.Author.Tests.{lt-ltb, le-ltb, eq-eqb, ne-eqb}
+use borrow.Author.Tests.{eq-eqb, ne-eqb}
 use Rattle.sh_cells.specs.Cells.{valueOf}
 use borrow.Author.Needs.{needs}
 use Rattle.sh_cells.proofs.value.Statement.{statement}

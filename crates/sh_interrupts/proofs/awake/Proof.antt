@@ -1,5 +1,5 @@
 -- `sh_interrupts::awake`: the same tests in the same order.
-use borrow.Author.Tests.{lt-ltb, le-ltb, eq-eqb, ne-eqb}
+use borrow.Author.Tests.{eq-eqb, ne-eqb}
 use Rattle.sh_interrupts.specs.Interrupt.{awakeOf}
 use Rattle.sh_interrupts.proofs.awake.Statement.{statement}
 use Rattle.sh_interrupts.proofs.awake.Tie as tie

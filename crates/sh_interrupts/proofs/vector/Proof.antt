@@ -1,5 +1,5 @@
 -- `sh_interrupts::vector`: the same tests in the same order.
-use borrow.Author.Tests.{lt-ltb, le-ltb, eq-eqb, ne-eqb}
+use borrow.Author.Tests.{lt-ltb, le-ltb}
 use Rattle.sh_interrupts.specs.Interrupt.{vectorOf}
 use Rattle.sh_interrupts.proofs.vector.Statement.{statement}
 use Rattle.sh_interrupts.proofs.vector.Tie as tie

@@ -1,5 +1,5 @@
 -- `sh_known::known`: the same tests in the same order.
-use borrow.Author.Tests.{lt-ltb, le-ltb, eq-eqb, ne-eqb}
+use borrow.Author.Tests.{lt-ltb, le-ltb}
 use Rattle.sh_known.specs.Known.{knownOf}
 use Rattle.sh_known.proofs.known.Statement.{statement}
 use Rattle.sh_known.proofs.known.Tie as tie

@@ -1,5 +1,5 @@
 -- `sh_writes::base_written`: the same test.
-use borrow.Author.Tests.{lt-ltb, le-ltb, eq-eqb, ne-eqb}
+use borrow.Author.Tests.{eq-eqb, ne-eqb}
 use Rattle.sh_state.specs.Record.{setBasePrescaler, setBaseCounter}
 use Rattle.sh_writes.specs.Writes.{baseWrittenOf}
 use Rattle.sh_writes.proofs.base_written.Statement.{statement}

@@ -1,5 +1,5 @@
 -- `sh_writes::noticed`: the same tests in the same order.
-use borrow.Author.Tests.{lt-ltb, le-ltb, eq-eqb, ne-eqb}
+use borrow.Author.Tests.{eq-eqb, ne-eqb}
 use Rattle.sh_writes.specs.Writes.{noticedOf}
 use borrow.Author.Needs.{needs}
 use Rattle.sh_writes.proofs.noticed.Statement.{statement}

@@ -1,5 +1,5 @@
 -- `call_step::step::step`: the program's length first.
-use borrow.Author.Tests.{lt-ltb, le-ltb, eq-eqb, ne-eqb}
+use borrow.Author.Tests.{eq-eqb, ne-eqb}
 use Rattle.call_step.specs.Step.{stepOf}
 use borrow.Author.Needs.{needs}
 use Rattle.call_step.proofs.step.step.Statement.{statement}

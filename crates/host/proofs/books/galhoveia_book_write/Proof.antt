@@ -1,6 +1,5 @@
 -- `host::books::galhoveia_book_write`: two calls, as the definition has them.
 use Rattle.host.proofs.Laws.{book-told}
-use Rattle.host.specs.Books.{hostWriteOf, bookTold}
 use borrow.Author.Needs.{needs}
 use Rattle.host.proofs.books.galhoveia_book_write.Statement.{statement}
 use Rattle.host.proofs.books.galhoveia_book_write.Tie as tie

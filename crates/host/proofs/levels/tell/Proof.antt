@@ -2,7 +2,6 @@
 use mir.Syntax.{w32}
 use mir.ValLaws.{toZ-ofZ}
 use Rattle.host.proofs.Laws.{level-found, level-refused}
-use Rattle.host.specs.Level.{levelTold}
 use borrow.Author.Needs.{needs}
 use Rattle.host.proofs.levels.tell.Statement.{statement}
 use Rattle.host.proofs.levels.tell.Tie as tie

@@ -1,6 +1,5 @@
 -- `host::pictures::drawn`: the record read, the picture drawn.
 use Rattle.host.proofs.Laws.{picture-told}
-use Rattle.host.specs.Picture.{pictureTold}
 use borrow.Author.Needs.{needs}
 use Rattle.host.proofs.pictures.drawn.Statement.{statement}
 use Rattle.host.proofs.pictures.drawn.Tie as tie

@@ -1,6 +1,5 @@
 -- `host::run::done`: the record read, the run made, the record written back.
 use Rattle.host.proofs.Laws.{run-told}
-use Rattle.host.specs.Run.{runTold}
 use borrow.Author.Needs.{needs}
 use Rattle.host.proofs.run.done.Statement.{statement}
 use Rattle.host.proofs.run.done.Tie as tie

@@ -1,6 +1,5 @@
 -- `host::run::refused`: the same test.
 use Rattle.host.proofs.Laws.{stopped-by-word, stopped-by-other}
-use Rattle.host.specs.Run.{stoppedBy}
 use borrow.Author.Tests.{eq-eqb, ne-eqb}
 use borrow.Author.Needs.{needs}
 use Rattle.host.proofs.run.refused.Statement.{statement}

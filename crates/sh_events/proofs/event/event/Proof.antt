@@ -1,5 +1,5 @@
 -- `sh_events::event::event`: the cycle, or another event.
-use borrow.Author.Tests.{lt-ltb, le-ltb, eq-eqb, ne-eqb}
+use borrow.Author.Tests.{eq-eqb, ne-eqb}
 use Rattle.sh_events.specs.Event.{eventOf}
 use borrow.Author.Needs.{needs}
 use Rattle.sh_events.proofs.event.event.Statement.{statement}

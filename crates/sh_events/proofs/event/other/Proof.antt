@@ -1,5 +1,5 @@
 -- `sh_events::event::other`: the same tests in the same order.
-use borrow.Author.Tests.{lt-ltb, le-ltb, eq-eqb, ne-eqb}
+use borrow.Author.Tests.{eq-eqb, ne-eqb}
 use Rattle.sh_events.specs.Event.{otherOf}
 use borrow.Author.Needs.{needs}
 use Rattle.sh_events.proofs.event.other.Statement.{statement}

@@ -1,5 +1,5 @@
 -- `sh_events::event::pins`: the same tests in the same order.
-use borrow.Author.Tests.{lt-ltb, le-ltb, eq-eqb, ne-eqb}
+use borrow.Author.Tests.{eq-eqb, ne-eqb}
 use Rattle.sh_events.specs.Event.{pinsOf}
 use Rattle.sh_execute.proofs.Laws.{state-at}
 use borrow.Author.Needs.{needs}

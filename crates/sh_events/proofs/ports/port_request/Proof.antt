@@ -1,5 +1,5 @@
 -- `sh_events::ports::port_request`: the same test.
-use borrow.Author.Tests.{lt-ltb, le-ltb, eq-eqb, ne-eqb}
+use borrow.Author.Tests.{eq-eqb, ne-eqb}
 use Rattle.sh_events.specs.Ports.{portRequestOf}
 use Rattle.sh_events.proofs.ports.port_request.Statement.{statement}
 use Rattle.sh_events.proofs.ports.port_request.Tie as tie

@@ -1,5 +1,5 @@
 -- `sh_map::map::kind_at`: the same bounds in the same order.
-use borrow.Author.Tests.{lt-ltb, le-ltb, eq-eqb, ne-eqb}
+use borrow.Author.Tests.{lt-ltb, le-ltb}
 use Rattle.sh_map.specs.Map.{kindOf}
 use Rattle.sh_map.proofs.map.kind_at.Statement.{statement}
 use Rattle.sh_map.proofs.map.kind_at.Tie as tie

@@ -1,5 +1,5 @@
 -- `sh_parts::edges::edge`: the same tests in the same order.
-use borrow.Author.Tests.{lt-ltb, le-ltb, eq-eqb, ne-eqb}
+use borrow.Author.Tests.{eq-eqb, ne-eqb}
 use native.Mathlib.Omega.{arith}
 use Rattle.sh_parts.specs.Edges.{edgeOf}
 use Rattle.sh_parts.proofs.edges.edge.Statement.{statement}

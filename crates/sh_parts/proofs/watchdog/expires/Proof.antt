@@ -1,5 +1,5 @@
 -- `sh_parts::watchdog::expires`: the same test.
-use borrow.Author.Tests.{lt-ltb, le-ltb, eq-eqb, ne-eqb}
+use borrow.Author.Tests.{eq-eqb, ne-eqb}
 use Rattle.sh_parts.specs.Watchdog.{expiresOf}
 use Rattle.sh_parts.proofs.watchdog.expires.Statement.{statement}
 use Rattle.sh_parts.proofs.watchdog.expires.Tie as tie

@@ -1,5 +1,5 @@
 -- `sh_reset::reset::sets`: the same test.
-use borrow.Author.Tests.{lt-ltb, le-ltb, eq-eqb, ne-eqb}
+use borrow.Author.Tests.{eq-eqb, ne-eqb}
 use Rattle.sh_reset.specs.Reset.{setsOf}
 use borrow.Author.Needs.{needs}
 use Rattle.sh_reset.proofs.reset.sets.Statement.{statement}

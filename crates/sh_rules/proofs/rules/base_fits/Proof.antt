@@ -1,5 +1,5 @@
 -- `sh_rules::rules::base_fits`: the same tests in the same order.
-use borrow.Author.Tests.{lt-ltb, le-ltb, eq-eqb, ne-eqb}
+use borrow.Author.Tests.{eq-eqb, ne-eqb}
 use Rattle.sh_rules.specs.Rules.{baseFits}
 use borrow.Author.Needs.{needs}
 use Rattle.sh_rules.proofs.rules.base_fits.Statement.{statement}

@@ -1,5 +1,5 @@
 -- `sh_rules::rules::cpu_fits`: the same tests in the same order.
-use borrow.Author.Tests.{lt-ltb, le-ltb, eq-eqb, ne-eqb}
+use borrow.Author.Tests.{lt-ltb, le-ltb}
 use Rattle.sh_rules.specs.Rules.{cpuFits}
 use Rattle.sh_rules.proofs.rules.cpu_fits.Statement.{statement}
 use Rattle.sh_rules.proofs.rules.cpu_fits.Tie as tie

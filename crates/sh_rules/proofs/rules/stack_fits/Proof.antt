@@ -1,5 +1,5 @@
 -- `sh_rules::rules::stack_fits`: the same tests in the same order.
-use borrow.Author.Tests.{lt-ltb, le-ltb, eq-eqb, ne-eqb}
+use borrow.Author.Tests.{lt-ltb, le-ltb, eq-eqb}
 use Rattle.sh_rules.specs.Rules.{stackFits}
 use borrow.Author.Needs.{needs}
 use Rattle.sh_rules.proofs.rules.stack_fits.Statement.{statement}

@@ -1,5 +1,5 @@
 -- `sh_timers::timer0::counted`: the same test.
-use borrow.Author.Tests.{lt-ltb, le-ltb, eq-eqb, ne-eqb}
+use borrow.Author.Tests.{lt-ltb, le-ltb}
 use Rattle.sh_timers.specs.Timer0.{countedOf}
 use borrow.Author.Needs.{needs}
 use Rattle.sh_timers.proofs.timer0.counted.Statement.{statement}

@@ -1,5 +1,5 @@
 -- `sh_timers::timer0::reload`: the same test.
-use borrow.Author.Tests.{lt-ltb, le-ltb, eq-eqb, ne-eqb}
+use borrow.Author.Tests.{eq-eqb, ne-eqb}
 use Rattle.sh_timers.specs.Timer0.{reloadOf}
 use Rattle.sh_timers.proofs.timer0.reload.Statement.{statement}
 use Rattle.sh_timers.proofs.timer0.reload.Tie as tie
