@@ -4,6 +4,7 @@ use call_run::Reason;
 use libc::STDOUT_FILENO;
 use refusal::Refusal;
 use sh_state::machine::Machine;
+use wire::record;
 
 pub fn text(s: &[u8]) {
     io::write_all(STDOUT_FILENO, s);
@@ -40,74 +41,74 @@ fn refused(why: Refusal) {
 pub fn left(events: usize, m: Machine, memory: &[u8]) {
     text(b", events ");
     io::print_decimal(STDOUT_FILENO, events as u64);
-    processor(m);
-    let s = m.stack;
-    stack(s);
-    timers(m);
-    pins(m);
+    let bytes = record::bytes_of(m);
+    processor(&bytes);
+    stack(&bytes);
+    timers(&bytes);
+    pins(&bytes);
     cells(memory);
 }
 
-fn processor(m: Machine) {
+fn processor(bytes: &[u8]) {
     text(b"\n  PC");
-    pair(m.pc);
+    pair(bytes, 0);
     text(b" AC");
-    single(m.ac);
+    single(bytes, 2);
     text(b" CY");
-    single(m.cy);
+    single(bytes, 3);
     text(b" mode");
-    single(m.mode);
+    single(bytes, 4);
 }
 
-fn stack(s: [u16; Machine::LEVELS]) {
+fn stack(bytes: &[u8]) {
     text(b" stack");
-    pair(s[0]);
-    pair(s[1]);
-    pair(s[2]);
-    pair(s[3]);
-    pair(s[4]);
-    pair(s[5]);
-    pair(s[6]);
-    pair(s[7]);
-}
-
-// A field of two bytes: four hexadecimal digits.
-fn pair(v: u16) {
-    text(b" ");
-    io::print_hex(STDOUT_FILENO, v as u64, 4);
-}
-
-// A field of one byte: two hexadecimal digits.
-fn single(v: u8) {
-    text(b" ");
-    io::print_hex(STDOUT_FILENO, v as u64, 2);
+    pair(bytes, 5);
+    pair(bytes, 7);
+    pair(bytes, 9);
+    pair(bytes, 11);
+    pair(bytes, 13);
+    pair(bytes, 15);
+    pair(bytes, 17);
+    pair(bytes, 19);
 }
 
 // Prescaler, counter and load of Timer0, prescaler and counter of the base timer, the watchdog's count.
-fn timers(m: Machine) {
+fn timers(bytes: &[u8]) {
     text(b"\n  Timer0");
-    pair(m.prescaler);
-    single(m.counter);
-    single(m.load);
+    pair(bytes, 21);
+    single(bytes, 23);
+    single(bytes, 24);
     text(b" base");
-    single(m.baseprescaler);
-    single(m.basecounter);
+    single(bytes, 25);
+    single(bytes, 26);
     text(b" watchdog");
-    pair(m.watchdog);
+    pair(bytes, 27);
 }
 
 // Pins of ports A to D, options, the pending read and its address.
-fn pins(m: Machine) {
+fn pins(bytes: &[u8]) {
     text(b" pins");
-    single(m.pina);
-    single(m.pinb);
-    single(m.pinc);
-    single(m.pind);
+    single(bytes, 29);
+    single(bytes, 30);
+    single(bytes, 31);
+    single(bytes, 32);
     text(b" options");
-    single(m.options);
+    single(bytes, 33);
     text(b" pending");
-    single(m.pending);
-    pair(m.address);
+    single(bytes, 34);
+    pair(bytes, 35);
+}
+
+// A field of two bytes: four hexadecimal digits.
+fn pair(bytes: &[u8], at: usize) {
+    text(b" ");
+    io::print_hex(STDOUT_FILENO, lent::pair_at(bytes, at) as u64, 4);
+}
+
+// A field of one byte: two hexadecimal digits.
+fn single(bytes: &[u8], at: usize) {
+    text(b" ");
+    io::print_hex(STDOUT_FILENO, lent::peek(bytes, at) as u64, 2);
 }
 
 // The cells that are not 0.
