@@ -1,8 +1,9 @@
 -- A cycle keeps a well-formed machine well formed, whatever the program.
 use mathlib.Core.Path.{_≡_, refl}
 use mathlib.Core.List.{List}
-use Prim.Native.Nat.{ℕ}
+use Prim.Native.Nat.{ℕ, _<_}
 use native.Mathlib.Omega.{arith}
+use lib.ListN.{set}
 use Rattle.lent.specs.Lent.{at}
 use Rattle.lent.proofs.Laws.{by-choice, by-eq}
 use Rattle.word.specs.declared.Decoded.{Decoded}
@@ -10,18 +11,38 @@ use Rattle.word.specs.declared.Decoded.the-variants.{Listed, Refused}
 use Rattle.word.specs.Word.{decodeOf}
 use Rattle.word.proofs.RoundTrip.{encode-decode}
 use Rattle.sh_state.specs.declared.machine.Machine.{Machine}
+use Rattle.sh_map.specs.Map.{kindOf, registerBits, heldIn, heldOf}
+use Rattle.sh_map.proofs.Within.{nibble-within}
+use Rattle.sh_state.specs.Record.{setMode, setPending}
 use Rattle.sh_state.specs.State.{State, state}
-use Rattle.sh_rules.proofs.Fits.{Fit}
+use Rattle.sh_rules.proofs.Fits.{Fit, mode-fits, pending-read-fits, store-keeps}
 use Rattle.sh_timers.specs.declared.request.Moved.{Moved}
 use Rattle.sh_interrupts.specs.Interrupt.{dueOf, awakeOf}
 use Rattle.sh_timers.proofs.Kept.{MovedFit, requested-keeps, clocked-keeps}
-use Rattle.sh_parts.proofs.Kept.{mode-keeps, cleared-keeps, landed-keeps}
 use Rattle.sh_interrupts.proofs.Kept.{interrupted-keeps}
 use Rattle.sh_execute.proofs.Kept.{execute-keeps}
 use Rattle.sh_cycle.specs.Cycle.{Happened, movedOf, readTakenOf, wokenOf, wordInOf, landedOf, clockOf, finishedOf, executedOf, instructedOf, interruptCycleOf, awakeCycleOf, asleepCycleOf, cycleDueOf, cycleOf}
 
 pub moved-keeps : {l : List ℕ} {r : Moved} → MovedFit l r → Fit (movedOf l r)
 moved-keeps {l} {r} f = requested-keeps (f .fit) (r .requests) (f .requests)
+
+-- What the cycle sets by itself.
+module _ {s : State} (f : Fit s) where
+  mode-keeps : (v : ℕ) → v < 3 → Fit (state (setMode (s .machine) v) (s .memory))
+  mode-keeps v h = record { memory = f .memory; machine = mode-fits (f .machine) v h }
+
+  cleared-keeps : Fit (state (setPending (s .machine) 0 0) (s .memory))
+  cleared-keeps = record { memory = f .memory; machine = pending-read-fits (f .machine) 0 0 (omega arith) (omega arith) (λ e. refl) }
+
+  -- the four nibbles of a word that was read
+  landed-keeps : (n0 n1 n2 n3 : ℕ) → n0 < 16 → n1 < 16 → n2 < 16 → n3 < 16
+      → Fit (state (s .machine) (set (set (set (set (s .memory) 0x1A n0) 0x1B n1) 0x1C n2) 0x1D n3))
+  unfolding heldOf heldIn kindOf registerBits
+  landed-keeps n0 n1 n2 n3 h0 h1 h2 h3 =
+      let f0 = store-keeps f 0x1A n0 (omega arith) (nibble-within n0 _ h0 refl) in
+      let f1 = store-keeps f0 0x1B n1 (omega arith) (nibble-within n1 _ h1 refl) in
+      let f2 = store-keeps f1 0x1C n2 (omega arith) (nibble-within n2 _ h2 refl) in
+      store-keeps f2 0x1D n3 (omega arith) (nibble-within n3 _ h3 refl)
 
 module _ {s : State} (f : Fit s) where
   landed-in-keeps : (p : List ℕ) (start : Machine) → Fit (state (s .machine) (landedOf p start (s .memory)))

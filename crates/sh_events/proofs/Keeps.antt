@@ -8,14 +8,15 @@ use Rattle.lent.specs.Lent.{at}
 use Rattle.lent.proofs.Laws.{by-choice, by-eq}
 use Rattle.sh_rules.specs.declared.judge.Judged.the-variants.{Fine}
 use Rattle.sh_rules.specs.Judge.{stateJudged}
-use Rattle.sh_state.specs.State.{State}
-use Rattle.sh_rules.proofs.Fits.{Fit, fit-of, judged-of}
+use Rattle.sh_state.specs.Record.{setPinA, setPinB, setPinC, setPinD}
+use Rattle.sh_state.specs.State.{State, state}
+use Rattle.sh_rules.proofs.Fits.{Fit, fit-of, judged-of, pin-a-fits, pin-b-fits, pin-c-fits, pin-d-fits}
 use Rattle.sh_reset.specs.declared.reset.Column.the-variants.{Pin, Watchdog}
 use Rattle.sh_timers.specs.Request.{requestedOf}
-use Rattle.sh_parts.specs.Watchdog.{expiresOf}
+use Rattle.sh_watchdog.specs.Watchdog.{expiresOf}
 use Rattle.sh_timers.proofs.Kept.{requested-keeps, fallen-keeps}
 use Rattle.sh_base_timer.proofs.Kept.{base-pulsed-keeps}
-use Rattle.sh_parts.proofs.Kept.{counted-down-keeps, pin-a-keeps, pin-b-keeps, pin-c-keeps, pin-d-keeps}
+use Rattle.sh_watchdog.proofs.Kept.{counted-down-keeps}
 use Rattle.sh_reset.proofs.Kept.{reset-keeps}
 use Rattle.sh_cycle.specs.Cycle.{Happened}
 use Rattle.sh_events.specs.Ports.{externalOf, fallingOf, portAOf, portRequestOf, portEdgesOf, portBOf, portCOf}
@@ -49,20 +50,32 @@ module _ {s : State} (f : Fit s) where
   unfolding watchdogPulseOf
   watchdog-pulse-keeps = by-choice Fit (expiresOf (s .machine)) _ _ (reset-keeps Watchdog f) (counted-down-keeps f)
 
+  pin-a-keeps : (v : ℕ) → v < 16 → Fit (state (setPinA (s .machine) v) (s .memory))
+  pin-a-keeps v h = record { memory = f .memory; machine = pin-a-fits (f .machine) v h }
+
+  pin-b-keeps : (v : ℕ) → v < 16 → Fit (state (setPinB (s .machine) v) (s .memory))
+  pin-b-keeps v h = record { memory = f .memory; machine = pin-b-fits (f .machine) v h }
+
+  pin-c-keeps : (v : ℕ) → v < 16 → Fit (state (setPinC (s .machine) v) (s .memory))
+  pin-c-keeps v h = record { memory = f .memory; machine = pin-c-fits (f .machine) v h }
+
+  pin-d-keeps : (v : ℕ) → v < 16 → Fit (state (setPinD (s .machine) v) (s .memory))
+  pin-d-keeps v h = record { memory = f .memory; machine = pin-d-fits (f .machine) v h }
+
   port-a-keeps : (pins : ℕ) → pins < 16 → Fit (portAOf s pins)
   unfolding portAOf
   port-a-keeps pins h =
       let l = s .memory in
-      let g = requested-keeps (pin-a-keeps f pins h) (externalOf s pins) (external-small s pins) in
+      let g = requested-keeps (pin-a-keeps pins h) (externalOf s pins) (external-small s pins) in
       moved-keeps (rw (mode-stays l (externalOf s pins)) at (fallen-keeps g (fallingOf s pins)))
 
   port-b-keeps : (pins : ℕ) → pins < 16 → Fit (portBOf s pins)
   unfolding portBOf
-  port-b-keeps pins h = requested-keeps (pin-b-keeps f pins h) _ (port-edges-small _ _ _ _)
+  port-b-keeps pins h = requested-keeps (pin-b-keeps pins h) _ (port-edges-small _ _ _ _)
 
   port-c-keeps : (pins : ℕ) → pins < 16 → Fit (portCOf s pins)
   unfolding portCOf
-  port-c-keeps pins h = requested-keeps (pin-c-keeps f pins h) _ (port-edges-small _ _ _ _)
+  port-c-keeps pins h = requested-keeps (pin-c-keeps pins h) _ (port-edges-small _ _ _ _)
 
   pins-keep : (e : ℕ) → Fit (pinsOf s e)
   unfolding pinsOf
@@ -71,7 +84,7 @@ module _ {s : State} (f : Fit s) where
       by-eq Fit (e / 16) 1 _ _ (λ t. port-a-keeps (e % 16) h)
       (λ t. by-eq Fit (e / 16) 2 _ _ (λ t. port-b-keeps (e % 16) h)
       (λ t. by-eq Fit (e / 16) 3 _ _ (λ t. port-c-keeps (e % 16) h)
-      (λ t. by-eq Fit (e / 16) 4 _ _ (λ t. pin-d-keeps f (e % 16) h) (λ t. f))))
+      (λ t. by-eq Fit (e / 16) 4 _ _ (λ t. pin-d-keeps (e % 16) h) (λ t. f))))
 
   other-keeps : (e : ℕ) → Fit (otherOf s e)
   unfolding otherOf

@@ -7,7 +7,7 @@ use Rattle.lent.specs.Lent.{pick, at}
 use Rattle.sh_state.specs.Record.{setPinD}
 use Rattle.sh_state.specs.State.{State, state}
 use Rattle.sh_base_timer.specs.BaseTimer.{basePulsedOf}
-use Rattle.sh_parts.specs.Watchdog.{expiresOf, countedDownOf}
+use Rattle.sh_watchdog.specs.Watchdog.{expiresOf, countedDownOf}
 use Rattle.sh_reset.specs.Reset.{resetOf}
 use Rattle.sh_reset.specs.declared.reset.Column.the-variants.{Pin, Watchdog}
 use Rattle.sh_cycle.specs.Cycle.{Happened, happened, movedOf, cycleOf}

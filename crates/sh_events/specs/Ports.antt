@@ -7,7 +7,7 @@ use Rattle.sh_state.specs.Record.{setPinA, setPinB, setPinC}
 use Rattle.sh_state.specs.State.{State, state}
 use Rattle.sh_timers.specs.Request.{requestedOf}
 use Rattle.sh_timers.specs.Timer0.{fallenOf}
-use Rattle.sh_parts.specs.Edges.{edgesOf}
+use Rattle.sh_edges.specs.Edges.{edgesOf}
 use Rattle.sh_cycle.specs.Cycle.{movedOf}
 
 -- PORTA.0, by its control in $016: an edge in the direction of $013 bit 0 sets IRQX

@@ -3,7 +3,6 @@ use crate::ports;
 use sh_cycle::cycle;
 use sh_cycle::cycle::Outcome;
 use sh_map::map;
-use sh_parts::watchdog;
 use sh_reset::reset;
 use sh_reset::reset::Column;
 use sh_state::machine::Machine;
@@ -25,10 +24,10 @@ fn base_pulse(m: Machine, memory: &mut [u8]) -> Machine
 fn watchdog_pulse(m: Machine, memory: &mut [u8]) -> Machine
     ensures { λ r. ⌜ state r (now (memory .exit)) ≡ watchdogPulseOf (state m (now (memory .entry))) ⌝ }
 {
-    if watchdog::expires(m) {
+    if sh_watchdog::expires(m) {
         return reset::reset(Column::Watchdog, m, memory);
     }
-    watchdog::counted_down(m)
+    sh_watchdog::counted_down(m)
 }
 
 fn pins(m: Machine, memory: &mut [u8], e: u8) -> Machine

@@ -1,6 +1,5 @@
 // Pins of the four ports, and what their edges ask for.
 use sh_map::map;
-use sh_parts::edges;
 use sh_state::machine::Machine;
 use sh_timers::request;
 use sh_timers::timer0;
@@ -14,7 +13,7 @@ ghost use Rattle.sh_timers.specs.Timer0.{fallenOf};
 fn external(m: Machine, memory: &[u8], pins: u8) -> u8
     ensures { λ r. ⌜ r ≡ externalOf (state m (now (memory .entry))) pins ⌝ }
 {
-    edges::edges(
+    sh_edges::edges(
         m.pina,
         pins,
         map::cell(memory, 0x16),
@@ -27,7 +26,7 @@ fn external(m: Machine, memory: &[u8], pins: u8) -> u8
 fn falling(m: Machine, memory: &[u8], pins: u8) -> u8
     ensures { λ r. ⌜ r ≡ fallingOf (state m (now (memory .entry))) pins ⌝ }
 {
-    edges::edges(m.pina, pins, map::cell(memory, 0x16), 0) % 2
+    sh_edges::edges(m.pina, pins, map::cell(memory, 0x16), 0) % 2
 }
 
 fn with_pin_a(m: Machine, pins: u8) -> Machine
@@ -95,7 +94,7 @@ fn port_request(edges: u8) -> u8
 fn port_edges(memory: &[u8], old: u8, pins: u8, control: u16) -> u8
     ensures { λ r. ⌜ r ≡ portEdgesOf (now (memory .entry)) old pins control ⌝ }
 {
-    port_request(edges::edges(
+    port_request(sh_edges::edges(
         old,
         pins,
         map::cell(memory, control),

@@ -1,7 +1,7 @@
 // The watchdog: a count of milliseconds that falls to a reset.
 use sh_state::machine::Machine;
 ghost use mathlib.Core.Path.{_≡_};
-ghost use Rattle.sh_parts.specs.Watchdog.{expiresOf, countedDownOf};
+ghost use Rattle.sh_watchdog.specs.Watchdog.{expiresOf, countedDownOf};
 
 // Whether the next pulse is the watchdog's reset.
 pub fn expires(m: Machine) -> bool

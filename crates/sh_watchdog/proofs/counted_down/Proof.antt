@@ -1,10 +1,10 @@
--- `sh_parts::watchdog::counted_down`: the same tests in the same order.
+-- `sh_watchdog::counted_down`: the same tests in the same order.
 use borrow.Author.Tests.{lt-ltb, le-ltb, eq-eqb, ne-eqb}
 use Rattle.sh_state.specs.Record.{setWatchdog}
-use Rattle.sh_parts.specs.Watchdog.{countedDownOf}
+use Rattle.sh_watchdog.specs.Watchdog.{countedDownOf}
 use borrow.Author.Needs.{needs}
-use Rattle.sh_parts.proofs.watchdog.counted_down.Statement.{statement}
-use Rattle.sh_parts.proofs.watchdog.counted_down.Tie as tie
+use Rattle.sh_watchdog.proofs.counted_down.Statement.{statement}
+use Rattle.sh_watchdog.proofs.counted_down.Tie as tie
 
 sub-n : tie.Need-sub-n
 sub-n c = search needs

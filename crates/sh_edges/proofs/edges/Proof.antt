@@ -1,8 +1,8 @@
--- `sh_parts::edges::edges`: four bits, as the definition has them.
-use Rattle.sh_parts.specs.Edges.{edgesOf}
+-- `sh_edges::edges`: four bits, as the definition has them.
+use Rattle.sh_edges.specs.Edges.{edgesOf}
 use borrow.Author.Needs.{needs}
-use Rattle.sh_parts.proofs.edges.edges.Statement.{statement}
-use Rattle.sh_parts.proofs.edges.edges.Tie as tie
+use Rattle.sh_edges.proofs.edges.Statement.{statement}
+use Rattle.sh_edges.proofs.edges.Tie as tie
 
 edge-requires : tie.Need-edge-requires
 edge-requires c κs = search needs

@@ -1,7 +1,7 @@
 // Edges of a port's pins.
 ghost use mathlib.Core.Path.{_≡_};
 ghost use Prim.Native.Nat.{_≤_};
-ghost use Rattle.sh_parts.specs.Edges.{edgeOf, edgesOf};
+ghost use Rattle.sh_edges.specs.Edges.{edgeOf, edgesOf};
 
 fn edge(old: u8, new: u8, control: u8, rising: u8) -> u8
     ensures { λ r. ⌜ r ≡ edgeOf old new control rising ⌝ }

@@ -1,8 +1,8 @@
--- `sh_parts::watchdog::expires`: the same test.
+-- `sh_watchdog::expires`: the same test.
 use borrow.Author.Tests.{eq-eqb, ne-eqb}
-use Rattle.sh_parts.specs.Watchdog.{expiresOf}
-use Rattle.sh_parts.proofs.watchdog.expires.Statement.{statement}
-use Rattle.sh_parts.proofs.watchdog.expires.Tie as tie
+use Rattle.sh_watchdog.specs.Watchdog.{expiresOf}
+use Rattle.sh_watchdog.proofs.expires.Statement.{statement}
+use Rattle.sh_watchdog.proofs.expires.Tie as tie
 
 returns : tie.Need-returns
 unfolding expiresOf

@@ -1,9 +1,9 @@
--- `sh_parts::edges::edge`: the same tests in the same order.
+-- `sh_edges::edge`: the same tests in the same order.
 use borrow.Author.Tests.{eq-eqb, ne-eqb}
 use native.Mathlib.Omega.{arith}
-use Rattle.sh_parts.specs.Edges.{edgeOf}
-use Rattle.sh_parts.proofs.edges.edge.Statement.{statement}
-use Rattle.sh_parts.proofs.edges.edge.Tie as tie
+use Rattle.sh_edges.specs.Edges.{edgeOf}
+use Rattle.sh_edges.proofs.edge.Statement.{statement}
+use Rattle.sh_edges.proofs.edge.Tie as tie
 
 returns : tie.Need-returns
 unfolding edgeOf
