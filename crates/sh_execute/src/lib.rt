@@ -26,14 +26,6 @@ fn within(pc: u16, t: u16) -> u16
     pc / 2048 * 2048 + t % 2048
 }
 
-fn with_pc(m: Machine, pc: u16) -> Machine
-    ensures { λ r. ⌜ r ≡ setPc m pc ⌝ }
-{
-    let mut n = m;
-    n.pc = pc;
-    n
-}
-
 fn with_ac_cy(m: Machine, ac: u8, cy: u8) -> Machine
     ensures { λ r. ⌜ r ≡ setCy (setAc m ac) cy ⌝ }
 {
@@ -46,7 +38,7 @@ fn with_ac_cy(m: Machine, ac: u8, cy: u8) -> Machine
 fn onward(m: Machine) -> Machine
     ensures { λ r. ⌜ r ≡ onwardOf m ⌝ }
 {
-    with_pc(m, next(m.pc))
+    machine::with_pc(m, next(m.pc))
 }
 
 // AC and CY take a result, and PC goes on.
@@ -183,7 +175,7 @@ fn taken(c: Condition, ac: u8, cy: u8) -> bool
 fn gone(m: Machine, t: u16) -> Machine
     ensures { λ n. ⌜ n ≡ setPc m (withinOf (m .pc) t) ⌝ }
 {
-    with_pc(m, within(m.pc, t))
+    machine::with_pc(m, within(m.pc, t))
 }
 
 fn branch_if(m: Machine, yes: bool, t: u16) -> Machine
@@ -204,7 +196,7 @@ fn branch(m: Machine, c: Condition, t: u16) -> Machine
 fn call(m: Machine, t: u16) -> Machine
     ensures { λ n. ⌜ n ≡ callOf m t ⌝ }
 {
-    with_pc(m.push(machine::entry(m.cy, next(m.pc))), within(m.pc, t))
+    machine::with_pc(m.push(machine::entry(m.cy, next(m.pc))), within(m.pc, t))
 }
 
 fn with_ac(m: Machine, ac: u8) -> Machine
@@ -219,7 +211,7 @@ fn rtnw(m: Machine, memory: &mut [u8], h: u8, l: u8) -> Machine
     ensures { λ n. ⌜ state n (now (memory .exit)) ≡ rtnwOf (state m (now (memory .entry))) h l ⌝ }
 {
     map::store(memory, 0x0E, h);
-    with_pc(with_ac(m.pop(), l), m.newest() % 4096)
+    machine::with_pc(with_ac(m.pop(), l), m.newest() % 4096)
 }
 
 fn with_cy(m: Machine, cy: u8) -> Machine
@@ -234,7 +226,7 @@ fn rtni(m: Machine) -> Machine
     ensures { λ n. ⌜ n ≡ rtniOf m ⌝ }
 {
     let e = m.newest();
-    with_pc(with_cy(m.pop(), (e / 4096 % 2) as u8), e % 4096)
+    machine::with_pc(with_cy(m.pop(), (e / 4096 % 2) as u8), e % 4096)
 }
 
 fn with_mode(m: Machine, mode: u8) -> Machine
@@ -260,7 +252,7 @@ fn shr(m: Machine) -> Machine
 fn tjmp(m: Machine, memory: &[u8]) -> Machine
     ensures { λ n. ⌜ n ≡ tjmpOf (state m (now (memory .entry))) ⌝ }
 {
-    with_pc(
+    machine::with_pc(
         m,
         m.pc / 256 * 256 + (map::cell(memory, 0x0E) % 16 * 16 + m.ac % 16) as u16,
     )
@@ -285,7 +277,7 @@ pub fn execute(m: Machine, memory: &mut [u8], i: Instruction) -> Machine
         Instruction::Rtni => rtni(m),
         Instruction::Halt => rest(m, 1),
         Instruction::Stop => rest(m, 2),
-        Instruction::Jmp(t) => with_pc(m, t),
+        Instruction::Jmp(t) => machine::with_pc(m, t),
         Instruction::Shr => shr(m),
         Instruction::Tjmp => tjmp(m, memory),
         Instruction::Nop => onward(m),

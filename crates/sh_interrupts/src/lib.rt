@@ -3,7 +3,6 @@ use sh_map::map;
 use sh_state::machine;
 use sh_state::machine::Machine;
 ghost use mathlib.Core.Path.{_≡_};
-ghost use Rattle.sh_state.specs.Record.{setPc};
 ghost use Rattle.sh_state.specs.State.{state};
 ghost use Rattle.sh_interrupts.specs.Interrupt.{dueOf, awakeOf, vectorOf, enteredOf, interruptedOf};
 
@@ -42,18 +41,10 @@ fn vector(due: u8) -> u16
     0x004
 }
 
-fn with_pc(m: Machine, pc: u16) -> Machine
-    ensures { λ r. ⌜ r ≡ setPc m pc ⌝ }
-{
-    let mut n = m;
-    n.pc = pc;
-    n
-}
-
 fn entered(m: Machine, due: u8) -> Machine
     ensures { λ r. ⌜ r ≡ enteredOf m due ⌝ }
 {
-    with_pc(m.push(machine::entry(m.cy, m.pc)), vector(due))
+    machine::with_pc(m.push(machine::entry(m.cy, m.pc)), vector(due))
 }
 
 // The first due interrupt taken.

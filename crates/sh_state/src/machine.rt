@@ -1,6 +1,6 @@
 // The machine's record, by value.
 ghost use mathlib.Core.Path.{_≡_};
-ghost use Rattle.sh_state.specs.Record.{entryOf, pushOf, popOf, newestOf, freshOf};
+ghost use Rattle.sh_state.specs.Record.{setPc, entryOf, pushOf, popOf, newestOf, freshOf};
 
 pub struct Machine {
     pub pc: u16,
@@ -97,4 +97,13 @@ pub fn entry(cy: u8, pc: u16) -> u16
     ensures { λ r. ⌜ r ≡ entryOf cy pc ⌝ }
 {
     (cy % 2) as u16 * 4096 + pc % 4096
+}
+
+// The machine with its counter at an address.
+pub fn with_pc(m: Machine, pc: u16) -> Machine
+    ensures { λ r. ⌜ r ≡ setPc m pc ⌝ }
+{
+    let mut n = m;
+    n.pc = pc;
+    n
 }
