@@ -10,7 +10,8 @@ use lib.Dec.{ltb, eqb}
 use lib.ListN.{length, take, drop, set, replicate, drop-of-length-le, length-append, length-drop, List·getD-eq-default}
 use lib.Seq.{drop-cons, set-out, take-suc-set, drop-set-lt, take-all, append-snoc, take-length, take-append-seam, drop-append-add, drop-drop, paste}
 use borrow.Author.Tests.{le-ltb, ltb-true, ltb-false, eqb-true, eqb-false}
-use Rattle.lent.specs.Lent.{pick, both, at, pairAtOf, pairSetOf, pastedOf, mapFrom}
+use Rattle.lent.specs.Lent.{pick, both, at, pairAtOf, pairSetOf, pastedOf, mapFrom, failsFrom}
+use Rattle.lent.specs.declared.Found.the-variants.{At, Nothing}
 
 -- what stands past the end is 0
 pub at-past : (l : List ℕ) (i : ℕ) → length l ≤ i → 0 ≡ at l i
@@ -112,3 +113,18 @@ pub map-zero : (l : List ℕ) (i : ℕ) → mapFrom (λ k v. 0) l i ≡ replicat
 unfolding mapFrom
 map-zero [] i = refl
 map-zero (v ∷ l) i = ap (λ (r : List ℕ). 0 ∷ r) (map-zero l (i + 1))
+
+-- A search as a loop does it: what is found from i on, where the loop ends, finds or goes on.
+module _ (f : ℕ → ℕ → Bool) (l : List ℕ) (i : ℕ) where
+  pub fails-end : length l ≤ i → Nothing ≡ failsFrom f (drop i l) i
+  unfolding failsFrom
+  fails-end h = rw (drop-of-length-le l h)
+
+  module _ (h : i < length l) (r : Bool) (e : r ≡ f i (at l i)) where
+    pub fails-here : r ≡ false → At i ≡ failsFrom f (drop i l) i
+    unfolding failsFrom
+    fails-here b = rw (drop-more l i h, ← e, b)
+
+    pub fails-on : r ≡ true → failsFrom f (drop (i + 1) l) (i + 1) ≡ failsFrom f (drop i l) i
+    unfolding failsFrom
+    fails-on b = rw (drop-more l i h, ← e, b)

@@ -4,6 +4,8 @@ use mathlib.Core.Bool.{Bool, true, false}
 use mathlib.Core.List.{List, [], _∷_, _++_}
 use lib.Dec.{ltb}
 use lib.ListN.{length, getD, set, take, drop}
+use Rattle.lent.specs.declared.Found.{Found}
+use Rattle.lent.specs.declared.Found.the-variants.{At, Nothing}
 
 -- the first where the test holds, else the second
 abbrev pub pick : {A : Type 0} → Bool → A → A → A
@@ -38,3 +40,8 @@ over l o = l ++ drop (length l) o
 unfoldable pub mapFrom : (ℕ → ℕ → ℕ) → List ℕ → ℕ → List ℕ
 mapFrom f [] i = []
 mapFrom f (v ∷ l) i = f i v ∷ mapFrom f l (i + 1)
+
+-- the first place, from i on, whose element does not pass a test of place and element
+unfoldable pub failsFrom : (ℕ → ℕ → Bool) → List ℕ → ℕ → Found
+failsFrom f [] i = Nothing
+failsFrom f (v ∷ l) i = pick (f i v) (failsFrom f l (i + 1)) (At i)

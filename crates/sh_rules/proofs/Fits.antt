@@ -10,7 +10,7 @@ use lib.Bits.{bitAnd, and-le-r}
 use lib.ListN.{length, set, length-set}
 use lib.Seq.{set-out, getD-set-same, getD-set-other}
 use borrow.Author.Tests.{ltb-true, ltb-false, leb-true, eqb-true, eqb-false, lt-ltb, le-leb, eq-eqb, ne-eqb}
-use Rattle.lent.specs.Lent.{pick, both, at}
+use Rattle.lent.specs.Lent.{pick, both, at, failsFrom}
 use Rattle.lent.proofs.Laws.{both-true, test, by-eq, at-past}
 use Rattle.refusal.specs.declared.Refusal.the-variants as refusal
 use Rattle.sh_rules.specs.declared.judge.Judged.the-variants.{Fine, Refused}
@@ -87,7 +87,7 @@ period-positive control = ltb-true 0 _ (below-at 8 (λ i. ltb 0 (at periods i)) 
 -- What a judgement that turns nothing down says.
 
 unbroken-at : (l : List ℕ) (a i : ℕ) → brokenFrom l a ≡ Nothing → bitAnd (at l i) (heldOf (a + i)) ≡ at l i
-unfolding brokenFrom cellFits
+unfolding failsFrom cellFits
 unbroken-at [] a i e = refl
 unbroken-at (v ∷ l) a zero e =
     let z : a + 0 ≡ a = omega arith in
@@ -97,7 +97,7 @@ unbroken-at (v ∷ l) a (suc i) e =
     by-eq (λ f. f ≡ Nothing → bitAnd (at l i) (heldOf (a + suc i)) ≡ at l i) (bitAnd v (heldOf a)) v _ _ (λ t f. rw z (unbroken-at l (a + 1) i f)) (λ t f. let y : _≡_ {A = ℕ} 0 1 = cc in absurd (omega arith)) e
 
 unbroken : (l : List ℕ) (a : ℕ) → ((i : ℕ) → bitAnd (at l i) (heldOf (a + i)) ≡ at l i) → brokenFrom l a ≡ Nothing
-unfolding brokenFrom cellFits
+unfolding failsFrom cellFits
 unbroken [] a h = refl
 unbroken (v ∷ l) a h =
     let z : a + 0 ≡ a = omega arith in

@@ -1,14 +1,13 @@
 -- The rules of a memory and of a record beside it (01, "What is lent"): a part for each.
-use Prim.Native.Nat.{ℕ, _+_, _/_, _%_}
+use Prim.Native.Nat.{ℕ, _/_, _%_}
 use mathlib.Core.Bool.{Bool, false}
-use mathlib.Core.List.{List, [], _∷_}
+use mathlib.Core.List.{List}
 use lib.Dec.{ltb, leb, eqb}
 use lib.Bits.{bitAnd}
 use lib.ListN.{length}
-use Rattle.lent.specs.Lent.{pick, both, at}
+use Rattle.lent.specs.Lent.{pick, both, at, failsFrom}
 use Rattle.sh_state.specs.declared.machine.Machine.{Machine}
 use Rattle.lent.specs.declared.Found.{Found}
-use Rattle.lent.specs.declared.Found.the-variants.{At, Nothing}
 use Rattle.sh_map.specs.Map.{heldOf}
 use Rattle.sh_periods.specs.Periods.{ratioOf, baseRatioOf, baseOn, periodOf}
 use Rattle.sh_state.specs.State.{State}
@@ -18,9 +17,8 @@ unfoldable pub cellFits : ℕ → ℕ → Bool
 cellFits a v = eqb (bitAnd v (heldOf a)) v
 
 -- the lowest address, from a on, whose byte breaks the rule
-unfoldable pub brokenFrom : List ℕ → ℕ → Found
-brokenFrom [] a = Nothing
-brokenFrom (v ∷ l) a = pick (cellFits a v) (brokenFrom l (a + 1)) (At a)
+abbrev pub brokenFrom : List ℕ → ℕ → Found
+brokenFrom l a = failsFrom cellFits l a
 
 -- PC 0-4095, AC a nibble, CY a bit, mode 0, 1 or 2
 unfoldable pub cpuFits : Machine → Bool

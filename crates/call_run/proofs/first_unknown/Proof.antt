@@ -5,8 +5,9 @@ use Prim.Native.Nat.{_≤_, _-_}
 use mathlib.Core.Path.{_≡_, _∙_, refl}
 use native.Mathlib.Omega.{arith}
 use lib.ListN.{length, drop}
+use Rattle.lent.proofs.Laws.{fails-end, fails-here, fails-on}
+use Rattle.sh_known.specs.Known.{knownOf}
 use Rattle.call_run.specs.Run.{unknownFrom}
-use Rattle.call_run.proofs.Laws.{unknown-end, unknown-here, unknown-on}
 use Rattle.call_run.proofs.first_unknown.Statement.{statement}
 use Rattle.call_run.proofs.first_unknown.Tie as tie
 
@@ -28,7 +29,7 @@ known-requires c κs = search needs
 returns : tie.Need-returns Inv-loop μ-loop
 returns c =
     let a = c .before .before .before in
-    unknown-here _ _ (a .loop-test .taken) _ (c .before .known .ensures) (not-true _ (c .if1 .taken)) ∙ a .before .loop .inv .1
+    fails-here (λ _ e. knownOf e) _ _ (a .loop-test .taken) _ (c .before .known .ensures) (not-true _ (c .if1 .taken)) ∙ a .before .loop .inv .1
 
 add-i : tie.Need-add-i Inv-loop μ-loop
 add-i c = omega arith
@@ -39,10 +40,10 @@ loop-less c = omega arith
 loop-again : tie.Need-loop-again Inv-loop μ-loop
 loop-again c =
     let a = c .before .before .before in
-    (omega arith, unknown-on _ _ (a .loop-test .taken) _ (c .before .known .ensures) (not-false _ (c .if1 .left)) ∙ a .before .loop .inv .1)
+    (omega arith, fails-on (λ _ e. knownOf e) _ _ (a .loop-test .taken) _ (c .before .known .ensures) (not-false _ (c .if1 .left)) ∙ a .before .loop .inv .1)
 
 returns-2 : tie.Need-returns-2 Inv-loop μ-loop
-returns-2 c = unknown-end _ _ (c .loop-test .left) ∙ c .before .loop .inv .1
+returns-2 c = fails-end (λ _ e. knownOf e) _ _ (c .loop-test .left) ∙ c .before .loop .inv .1
 
 pub first-unknown-spec : {M : Type 1} → statement M
 first-unknown-spec =

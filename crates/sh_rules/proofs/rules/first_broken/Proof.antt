@@ -5,8 +5,8 @@ use Prim.Native.Nat.{_≤_, _-_}
 use mathlib.Core.Path.{_≡_, _∙_, refl}
 use native.Mathlib.Omega.{arith}
 use lib.ListN.{length, drop}
-use Rattle.sh_rules.specs.Rules.{brokenFrom}
-use Rattle.sh_rules.proofs.Laws.{broken-end, broken-here, broken-on}
+use Rattle.lent.proofs.Laws.{fails-end, fails-here, fails-on}
+use Rattle.sh_rules.specs.Rules.{cellFits, brokenFrom}
 use Rattle.sh_rules.proofs.rules.first_broken.Statement.{statement}
 use Rattle.sh_rules.proofs.rules.first_broken.Tie as tie
 
@@ -28,7 +28,7 @@ cell-fits-requires c κs = search needs
 returns : tie.Need-returns Inv-loop μ-loop
 returns c =
     let a = c .before .before .before in
-    broken-here _ _ (a .loop-test .taken) _ (c .before .cell-fits .ensures) (not-true _ (c .if1 .taken)) ∙ a .before .loop .inv .1
+    fails-here cellFits _ _ (a .loop-test .taken) _ (c .before .cell-fits .ensures) (not-true _ (c .if1 .taken)) ∙ a .before .loop .inv .1
 
 add-i : tie.Need-add-i Inv-loop μ-loop
 add-i c = omega arith
@@ -39,10 +39,10 @@ loop-less c = omega arith
 loop-again : tie.Need-loop-again Inv-loop μ-loop
 loop-again c =
     let a = c .before .before .before in
-    (omega arith, broken-on _ _ (a .loop-test .taken) _ (c .before .cell-fits .ensures) (not-false _ (c .if1 .left)) ∙ a .before .loop .inv .1)
+    (omega arith, fails-on cellFits _ _ (a .loop-test .taken) _ (c .before .cell-fits .ensures) (not-false _ (c .if1 .left)) ∙ a .before .loop .inv .1)
 
 returns-2 : tie.Need-returns-2 Inv-loop μ-loop
-returns-2 c = broken-end _ _ (c .loop-test .left) ∙ c .before .loop .inv .1
+returns-2 c = fails-end cellFits _ _ (c .loop-test .left) ∙ c .before .loop .inv .1
 
 pub first-broken-spec : {M : Type 1} → statement M
 first-broken-spec =
