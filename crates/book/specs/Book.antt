@@ -14,6 +14,7 @@ use Rattle.book.specs.declared.Parts.{Parts}
 use Rattle.book.specs.declared.Reading.{Reading}
 use Rattle.book.specs.declared.Reading.the-variants as reading
 use Rattle.body.specs.Body.{lengthFits, told, valuesJudged}
+use Rattle.refusal.specs.Told.{Said, doneTold, refusedTold}
 
 -- the bytes of a file from an offset on, as many as there are
 unfoldable pub partOf : List ℕ → ℕ → ℕ → List ℕ
@@ -87,3 +88,15 @@ readOf l = readingOf (bookJudged l) (partsOf l)
 -- a body of a file, by its place
 abbrev pub bodyIn : List ℕ → Place → List ℕ
 bodyIn l p = partOf l (p .offset) (p .length)
+
+-- what is told of a reading: where the bodies lie, or what stood there
+pub record Found : Type 0 where
+  pub told : Said
+  pub parts : Parts
+
+abbrev pub found : Said → Parts → Found
+found t p = record { told = t; parts = p }
+
+unfoldable pub readingTold : Reading → Parts → Found
+readingTold (reading.Parts p) old = found doneTold p
+readingTold (reading.Refused why) old = found (refusedTold why) old

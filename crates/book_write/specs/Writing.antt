@@ -16,6 +16,7 @@ use Rattle.book_write.specs.declared.Written.the-variants as written
 use Rattle.lent.specs.Outcome.{Outcome, outcome}
 use Rattle.body.specs.Body.{lengthFits, told, valuesJudged}
 use Rattle.book.specs.Book.{contentsLength, readOf, bodyIn}
+use Rattle.refusal.specs.Told.{Counted, counted, doneTold, refusedTold}
 
 -- a number's two bytes, "high byte first"
 abbrev pub high : ℕ → ℕ
@@ -88,3 +89,8 @@ pub record Holds (l p w v : List ℕ) : Type 0 where
 -- a list of bytes
 abbrev pub AllBytes : List ℕ → Type 0
 AllBytes l = (i : ℕ) → at l i < 256
+
+-- what is told of a writing: how many bytes, beside
+unfoldable pub writtenTold : Written → ℕ → Counted
+writtenTold (written.Bytes n) count = counted doneTold n
+writtenTold (written.Refused why) count = counted (refusedTold why) count

@@ -1,11 +1,13 @@
 -- The call run: 1 to 5 before anything moves, 5 over the whole script; else the run (01, "A run stops ..").
-use Prim.Native.Nat.{ℕ, _+_}
-use mathlib.Core.List.{List, [], _∷_}
+use Prim.Native.Nat.{ℕ}
+use mathlib.Core.List.{List}
 use lib.Dec.{eqb}
 use lib.ListN.{length}
-use Rattle.lent.specs.Lent.{pick}
+use Rattle.lent.specs.Lent.{pick, failsFrom}
 use Rattle.refusal.specs.declared.Refusal.{Refusal}
 use Rattle.refusal.specs.declared.Refusal.the-variants.{ProgramLength, UnknownEvent, UnlistedWord}
+use Rattle.refusal.specs.Refusal.{numberOf}
+use Rattle.refusal.specs.Told.{Said, doneTold, refusedTold}
 use Rattle.sh_state.specs.State.{State}
 use Rattle.sh_state.specs.declared.machine.Machine.{Machine}
 use Rattle.sh_rules.specs.declared.judge.Judged.{Judged}
@@ -13,7 +15,7 @@ use Rattle.lent.specs.declared.Found.{Found}
 use Rattle.sh_rules.specs.Judge.{stateJudged}
 use Rattle.sh_known.specs.Known.{knownOf}
 use Rattle.sh_run.specs.declared.Stop.{Stop}
-use Rattle.sh_run.specs.Run.{Ran, runOf}
+use Rattle.sh_run.specs.Run.{Ran, runOf, stopNumber}
 use Rattle.call_run.specs.declared.Reason.{Reason}
 
 -- what a run answers: why it stopped, or the refusal, and how many events were done
@@ -38,9 +40,8 @@ unfoldable pub runToldOf : Ran → RunAnswered
 runToldOf r = runAnswered (reasonOf (r .why) (r .after .machine)) (r .events) (r .after)
 
 -- the first place, from i on, of a byte that is no event
-unfoldable pub unknownFrom : List ℕ → ℕ → Found
-unknownFrom [] i = Found.Nothing
-unknownFrom (e ∷ script) i = pick (knownOf e) (unknownFrom script (i + 1)) (Found.At i)
+abbrev pub unknownFrom : List ℕ → ℕ → Found
+unknownFrom script i = failsFrom (λ _ e. knownOf e) script i
 
 -- 5: unknown event
 unfoldable pub runFoundOf : List ℕ → State → List ℕ → ℕ → Found → RunAnswered
@@ -56,3 +57,22 @@ runJudgedOf p s script target (Judged.Refused why) = runRefused why s
 unfoldable pub runCallOf : List ℕ → State → List ℕ → ℕ → RunAnswered
 runCallOf p s script target =
     pick (eqb (length p) 4096) (runJudgedOf p s script target (stateJudged s)) (runRefused (ProgramLength (length p)) s)
+
+-- what is told of a run: the number and its value, the reason, and how many events were done
+pub record Stopped : Type 0 where
+  pub told : Said
+  pub reason : ℕ
+  pub events : ℕ
+
+abbrev pub stopped : Said → ℕ → ℕ → Stopped
+stopped t reason events = record { told = t; reason = reason; events = events }
+
+-- of the refusals 6 alone tells a reason and a count; the others leave what stood there
+unfoldable pub refusedBy : Refusal → ℕ → ℕ → ℕ → Stopped
+refusedBy why n reason events =
+    pick (eqb (numberOf why) 6) (stopped (refusedTold why) (stopNumber Stop.Unlisted) n) (stopped (refusedTold why) reason events)
+
+unfoldable pub reasonTold : Reason → ℕ → ℕ → ℕ → Stopped
+reasonTold Reason.Address n reason events = stopped doneTold (stopNumber Stop.Address) n
+reasonTold Reason.End n reason events = stopped doneTold (stopNumber Stop.End) n
+reasonTold (Reason.Refused why) n reason events = refusedBy why n reason events

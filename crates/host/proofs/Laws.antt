@@ -7,35 +7,36 @@ use mathlib.Core.Bool.{true, false}
 use lib.Dec.{eqb}
 use Rattle.refusal.specs.declared.Refusal.{Refusal}
 use Rattle.refusal.specs.Refusal.{numberOf}
+use Rattle.refusal.specs.Told.{Said, Counted, counted, doneTold, refusedTold}
 use Rattle.sh_state.specs.declared.machine.Machine.{Machine}
 use Rattle.sh_state.specs.State.{state}
 use lib.ListN.{length}
 use Rattle.lent.specs.Lent.{pastedOf}
-use Rattle.answer.specs.Answer.{Answered}
-use Rattle.call_run.specs.Run.{RunAnswered}
+use Rattle.answer.specs.Answer.{Answered, outcomeTold}
 use Rattle.call_step.specs.Step.{stepOf}
-use Rattle.call_run.specs.Run.{runCallOf}
+use Rattle.call_run.specs.Run.{RunAnswered, runCallOf, Stopped, stopped, refusedBy, reasonTold}
 use Rattle.lent.specs.Outcome.{Outcome}
-use Rattle.book.specs.Book.{readOf}
-use Rattle.book_write.specs.Writing.{writeOf}
-use Rattle.picture.specs.Picture.{pictureOf}
+use Rattle.book.specs.Book.{readOf, Found, found, readingTold}
+use Rattle.book_write.specs.Writing.{writeOf, writtenTold}
+use Rattle.picture.specs.Picture.{pictureOf, drawnTold}
 use Rattle.wire.specs.Record.{recordOf, bytesOf}
 use Rattle.wire.specs.Words.{wordsOf}
 use Rattle.wire.proofs.Laws.{record-whole}
 use Rattle.sh_rules.specs.declared.judge.Judged.{Judged}
+use Rattle.sh_rules.specs.Judge.{judgedTold}
 use Rattle.answer.specs.declared.Outcome as answers
 use Rattle.call_run.specs.declared.Reason.{Reason}
 use Rattle.level.specs.declared.Levelled.{Levelled}
+use Rattle.level.specs.Level.{levels, levelledTold}
 use Rattle.picture.specs.declared.Drawn.{Drawn}
 use Rattle.book_write.specs.declared.Written.{Written}
 use Rattle.book.specs.declared.Reading.{Reading}
 use Rattle.book.specs.declared.Parts.{Parts}
-use Rattle.host.specs.Told.{Said, Counted, counted, filled, doneTold, refusedTold, judgedTold, outcomeTold}
+use Rattle.host.specs.Told.{filled}
 use Rattle.host.specs.Step.{stepped, stepTold}
-use Rattle.host.specs.Run.{Stopped, stopped, stoppedBy, stoppedOf, ran, runTold}
-use Rattle.host.specs.Level.{levels, levelTold}
-use Rattle.host.specs.Picture.{drawnTold, pictureTold}
-use Rattle.host.specs.Books.{Found, found, readTold, hostReadOf, writtenTold, bookTold, hostWriteOf}
+use Rattle.host.specs.Run.{ran, runTold}
+use Rattle.host.specs.Picture.{pictureTold}
+use Rattle.host.specs.Books.{hostReadOf, bookTold, hostWriteOf}
 
 pub judged-at : {i j : Judged} {r : Said} → i ≡ j → r ≡ judgedTold j → r ≡ judgedTold i
 judged-at p q = q ∙ sym (ap judgedTold p)
@@ -43,15 +44,15 @@ judged-at p q = q ∙ sym (ap judgedTold p)
 pub outcome-at : {i j : answers.Outcome} {r : Said} → i ≡ j → r ≡ outcomeTold j → r ≡ outcomeTold i
 outcome-at p q = q ∙ sym (ap outcomeTold p)
 
-pub stopped-at : {i j : Reason} {r : Stopped} (n reason events : ℕ) → i ≡ j → r ≡ stoppedOf j n reason events → r ≡ stoppedOf i n reason events
-stopped-at n reason events p q = q ∙ sym (ap (λ k. stoppedOf k n reason events) p)
+pub stopped-at : {i j : Reason} {r : Stopped} (n reason events : ℕ) → i ≡ j → r ≡ reasonTold j n reason events → r ≡ reasonTold i n reason events
+stopped-at n reason events p q = q ∙ sym (ap (λ k. reasonTold k n reason events) p)
 
-pub level-found : {i : Levelled} {v k : ℤ} {s : Said} (old : ℤ) → i ≡ Levelled.Level v → k ≡ v → s ≡ doneTold → levels s k ≡ levelTold i old
-unfolding levelTold
+pub level-found : {i : Levelled} {v k : ℤ} {s : Said} (old : ℤ) → i ≡ Levelled.Level v → k ≡ v → s ≡ doneTold → levels s k ≡ levelledTold i old
+unfolding levelledTold
 level-found old e f g = rw (e, f, g)
 
-pub level-refused : {i : Levelled} {why : Refusal} {s : Said} (old : ℤ) → i ≡ Levelled.Refused why → s ≡ refusedTold why → levels s old ≡ levelTold i old
-unfolding levelTold
+pub level-refused : {i : Levelled} {why : Refusal} {s : Said} (old : ℤ) → i ≡ Levelled.Refused why → s ≡ refusedTold why → levels s old ≡ levelledTold i old
+unfolding levelledTold
 level-refused old e g = rw (e, g)
 
 pub drawn-at : {i j : Drawn} {r : Counted} (count : ℕ) → i ≡ j → r ≡ drawnTold j count → r ≡ drawnTold i count
@@ -60,12 +61,12 @@ drawn-at count p q = q ∙ sym (ap (λ k. drawnTold k count) p)
 pub written-at : {i j : Written} {r : Counted} (count : ℕ) → i ≡ j → r ≡ writtenTold j count → r ≡ writtenTold i count
 written-at count p q = q ∙ sym (ap (λ k. writtenTold k count) p)
 
-pub read-found : {i : Reading} {p q : Parts} {s : Said} (old : Parts) → i ≡ Reading.Parts p → q ≡ p → s ≡ doneTold → found s q ≡ readTold i old
-unfolding readTold
+pub read-found : {i : Reading} {p q : Parts} {s : Said} (old : Parts) → i ≡ Reading.Parts p → q ≡ p → s ≡ doneTold → found s q ≡ readingTold i old
+unfolding readingTold
 read-found old e f g = rw (e, f, g)
 
-pub read-refused : {i : Reading} {why : Refusal} {s : Said} (old : Parts) → i ≡ Reading.Refused why → s ≡ refusedTold why → found s old ≡ readTold i old
-unfolding readTold
+pub read-refused : {i : Reading} {why : Refusal} {s : Said} (old : Parts) → i ≡ Reading.Refused why → s ≡ refusedTold why → found s old ≡ readingTold i old
+unfolding readingTold
 read-refused old e g = rw (e, g)
 
 -- what is said, beside what else a call leaves
@@ -82,12 +83,12 @@ pub ran-said : {s t : Said} (reason events : ℕ) (l b : List ℕ) → s ≡ t �
 ran-said reason events l b p = ap (λ k. ran (stopped k reason events) l b) p
 
 -- 6 alone has a reason and a count to tell
-pub stopped-by-word : (why : Refusal) {k : ℕ} {s : Said} (n reason events : ℕ) → k ≡ numberOf why → eqb k 6 ≡ true → s ≡ refusedTold why → stopped s 1 n ≡ stoppedBy why n reason events
-unfolding stoppedBy
+pub stopped-by-word : (why : Refusal) {k : ℕ} {s : Said} (n reason events : ℕ) → k ≡ numberOf why → eqb k 6 ≡ true → s ≡ refusedTold why → stopped s 1 n ≡ refusedBy why n reason events
+unfolding refusedBy
 stopped-by-word why n reason events p t g = rw (← p, t, g)
 
-pub stopped-by-other : (why : Refusal) {k : ℕ} {s : Said} (n reason events : ℕ) → k ≡ numberOf why → eqb k 6 ≡ false → s ≡ refusedTold why → stopped s reason events ≡ stoppedBy why n reason events
-unfolding stoppedBy
+pub stopped-by-other : (why : Refusal) {k : ℕ} {s : Said} (n reason events : ℕ) → k ≡ numberOf why → eqb k 6 ≡ false → s ≡ refusedTold why → stopped s reason events ≡ refusedBy why n reason events
+unfolding refusedBy
 stopped-by-other why n reason events p t g = rw (← p, t, g)
 
 -- a call for C from its parts: the words and the record read, the call's answer, the record written back, what is told
@@ -102,7 +103,7 @@ pub step-told : (body l b : List ℕ) (event : ℕ) (w : List ℕ) (m : Machine)
 step-told body l b event w m a k t p q r n s g = answer-told b _ a k t (rw (← p, ← q) r) n s g
 
 pub run-told : (body l b script : List ℕ) (stop reason events : ℕ) (w : List ℕ) (m : Machine) (a : RunAnswered) (k : List ℕ) (n : Stopped) →
-    w ≡ wordsOf body 4096 → m ≡ recordOf b → a ≡ runCallOf w (state m l) script stop → length b ≡ 37 → k ≡ pastedOf b 0 (bytesOf (a .after .machine)) → n ≡ stoppedOf (a .reason) (a .events) reason events →
+    w ≡ wordsOf body 4096 → m ≡ recordOf b → a ≡ runCallOf w (state m l) script stop → length b ≡ 37 → k ≡ pastedOf b 0 (bytesOf (a .after .machine)) → n ≡ reasonTold (a .reason) (a .events) reason events →
     ran n (a .after .memory) k ≡ runTold (runCallOf (wordsOf body 4096) (state (recordOf b) l) script stop) reason events
 unfolding runTold
 run-told body l b script stop reason events w m a k n p q r h s t = rw (← p, ← q, ← r, s, record-whole (a .after .machine) b h, t)
@@ -118,6 +119,6 @@ pub book-told : (program wiring level room : List ℕ) (count : ℕ) (a : Outcom
 unfolding hostWriteOf bookTold
 book-told program wiring level room count a k p q = rw (← p, q)
 
-pub read-told : (file : List ℕ) (old : Parts) {a : Reading} {f : Found} → a ≡ readOf file → f ≡ readTold a old → f ≡ hostReadOf file old
+pub read-told : (file : List ℕ) (old : Parts) {a : Reading} {f : Found} → a ≡ readOf file → f ≡ readingTold a old → f ≡ hostReadOf file old
 unfolding hostReadOf
 read-told file old p q = rw (← p) q

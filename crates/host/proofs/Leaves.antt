@@ -7,19 +7,19 @@ use Rattle.lent.specs.Lent.{at}
 use Rattle.lent.proofs.Laws.{by-eq}
 use Rattle.refusal.specs.declared.Refusal.{Refusal}
 use Rattle.refusal.specs.Refusal.{numberOf}
+use Rattle.refusal.specs.Told.{doneTold, refusedTold}
 use Rattle.sh_state.specs.State.{State, state}
 use Rattle.answer.specs.declared.Outcome.{Outcome}
-use Rattle.answer.specs.Answer.{answered}
+use Rattle.answer.specs.Answer.{answered, outcomeTold}
 use Rattle.call_step.proofs.Leaves as step
 use Rattle.call_run.specs.declared.Reason.{Reason}
-use Rattle.call_run.specs.Run.{RunAnswered, runAnswered}
+use Rattle.call_run.specs.Run.{RunAnswered, runAnswered, Stopped, stopped, refusedBy, reasonTold}
 use Rattle.call_run.proofs.Leaves as run
 use Rattle.wire.specs.Record.{recordOf, bytesOf}
 use Rattle.wire.specs.Words.{wordsOf}
 use Rattle.wire.proofs.Trips.{back-and-there}
-use Rattle.host.specs.Told.{doneTold, refusedTold, outcomeTold}
 use Rattle.host.specs.Step.{Stepped, stepped, stepTold, hostStepOf}
-use Rattle.host.specs.Run.{Stopped, Ran, ran, stopped, stoppedBy, stoppedOf, runTold, hostRunOf}
+use Rattle.host.specs.Run.{Ran, ran, runTold, hostRunOf}
 
 -- what C lends are bytes
 abbrev pub Bytes : List ℕ → Type 0
@@ -43,7 +43,7 @@ module _ (l b : List ℕ) (n : length b ≡ 37) (fit : Bytes b) where
       (r .stop .told .number ≡ 0 → ⊥) → (r .stop .told .number ≡ 6 → ⊥) → r ≡ ran (stopped (r .stop .told) reason events) l b
 
   run-left : (r : Reason) (k : ℕ) (s : State) (reason events : ℕ) → ((why : Refusal) → r ≡ Reason.Refused why → (numberOf why ≡ 6 → ⊥) → s ≡ state (recordOf b) l) → RunLeft (runTold (runAnswered r k s) reason events) reason events
-  unfolding runTold stoppedOf stoppedBy doneTold refusedTold
+  unfolding runTold reasonTold refusedBy doneTold refusedTold
   run-left Reason.Address k s reason events h = λ f g. absurd (f refl)
   run-left Reason.End k s reason events h = λ f g. absurd (f refl)
   run-left (Reason.Refused why) k s reason events h =

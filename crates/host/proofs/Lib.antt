@@ -2,3 +2,4 @@ pub mod Laws
 pub mod Lists
 pub mod Kept
 pub mod Leaves
+pub mod Back

@@ -10,17 +10,18 @@ use Rattle.lent.specs.Lent.{pastedOf, over}
 use Rattle.lent.proofs.Laws.{by-test, by-lt, by-eq, pasted-front}
 use Rattle.refusal.specs.declared.Refusal.{Refusal}
 use Rattle.refusal.specs.declared.Refusal.the-variants.{Room, NotAskable}
+use Rattle.refusal.specs.Told.{Said, Counted, counted, doneTold, refusedTold}
 use Rattle.sh_map.specs.Map.{askableOf}
 use Rattle.writers.specs.declared.Listed.{Listed}
 use Rattle.writers.specs.declared.Listed.the-variants.{Count, Refused}
 use Rattle.writers.specs.Test.{writesOf}
 use Rattle.writers.specs.List.{writersFrom, writersOf}
-use Rattle.writers.specs.Answer.{filledOf, listOf}
+use Rattle.writers.specs.Answer.{filledOf, listOf, listedTold}
 use Rattle.lent.specs.Outcome.{Outcome, outcome}
 use Rattle.wire.specs.Words.{pairsOf}
 use Rattle.wire.proofs.Laws.{length-pairs, pairs-front}
-use Rattle.host.specs.Told.{Said, Counted, counted, Filled, filled, doneTold, refusedTold}
-use Rattle.host.specs.List.{refusedOf, bytesFilledOf, askedOf}
+use Rattle.host.specs.Told.{Filled, filled}
+use Rattle.host.specs.List.{listTold, askedOf}
 
 from-within : (a : ℕ) (p : List ℕ) (c : ℕ) → length (writersFrom a p c) ≤ length p
 unfolding writersFrom
@@ -85,24 +86,24 @@ module _ (p w : List ℕ) (c : ℕ) (o t : List ℕ) (a : Listed) (q : w ≡ p) 
   pub counted-within : (n : ℕ) → a ≡ Count n → length p ≡ 4096 → n ≤ 4096
   counted-within n k h = omega (arith, counted-is p c o t n (answer-known k) .1, list-within p c)
 
-  pub counted-told : (n count : ℕ) (room : List ℕ) {r : Filled} → a ≡ Count n → r ≡ bytesFilledOf (pairsOf t n) room count → r ≡ askedOf p c room count
+  pub counted-told : (n count : ℕ) (room : List ℕ) {r : Filled} → a ≡ Count n → r ≡ listTold (filledOf (pairsOf t n) room) count → r ≡ listTold (askedOf p c room) count
   unfolding askedOf
   counted-told n count room k u = rw (counted-is p c o t n (answer-known k) .0, ← counted-bytes p c o t n (answer-known k)) u
 
-  pub refused-told : (why : Refusal) (count : ℕ) (room : List ℕ) {s : Said} → a ≡ Refused why → length p ≡ 4096 → length o ≡ 4096 → s ≡ refusedTold why → filled (counted s count) room ≡ askedOf p c room count
-  unfolding askedOf refusedOf
+  pub refused-told : (why : Refusal) (count : ℕ) (room : List ℕ) {s : Said} → a ≡ Refused why → length p ≡ 4096 → length o ≡ 4096 → s ≡ refusedTold why → filled (counted s count) room ≡ listTold (askedOf p c room) count
+  unfolding askedOf listTold listedTold
   refused-told why count room k f g u =
       let s = refused-is p c o t why f g (answer-known k) in
       rw (s .0, ← s .1, u)
 
 -- The bytes of n numbers in the room, or 7.
 module _ (t room : List ℕ) (n count : ℕ) where
-  pub no-room : {s : Said} → length room < n * 2 → s ≡ refusedTold (Room (n * 2)) → filled (counted s count) room ≡ bytesFilledOf (pairsOf t n) room count
-  unfolding bytesFilledOf refusedOf
+  pub no-room : {s : Said} → length room < n * 2 → s ≡ refusedTold (Room (n * 2)) → filled (counted s count) room ≡ listTold (filledOf (pairsOf t n) room) count
+  unfolding filledOf listTold listedTold
   no-room h e = rw (length-pairs t n, lt-ltb (length room) (n * 2) h, e)
 
-  pub in-room : {o : List ℕ} {k : Counted} → n * 2 ≤ length room → o ≡ pastedOf room 0 (pairsOf t n) → k ≡ counted doneTold (n * 2) → filled k o ≡ bytesFilledOf (pairsOf t n) room count
-  unfolding bytesFilledOf over
+  pub in-room : {o : List ℕ} {k : Counted} → n * 2 ≤ length room → o ≡ pastedOf room 0 (pairsOf t n) → k ≡ counted doneTold (n * 2) → filled k o ≡ listTold (filledOf (pairsOf t n) room) count
+  unfolding filledOf listTold listedTold over
   in-room h e g =
       let f = pasted-front room (pairsOf t n) (omega (arith, length-pairs t n)) in
       rw (e, f, g, length-pairs t n, le-ltb (length room) (n * 2) h)

@@ -5,8 +5,8 @@ use lib.Dec.{ltb, eqb}
 use lib.ListN.{length}
 use Rattle.lent.specs.Lent.{pick}
 use Rattle.refusal.specs.declared.Refusal.the-variants as refusal
+use Rattle.refusal.specs.Told.{refusedTold}
 use Rattle.call_fresh.specs.Fresh.{freshCallOf}
-use Rattle.host.specs.Told.{refusedTold}
 use Rattle.host.specs.Step.{Stepped, stepped, stepTold}
 
 unfoldable pub hostFreshOf : ℕ → List ℕ → List ℕ → Stepped

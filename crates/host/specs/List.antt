@@ -1,34 +1,32 @@
 -- list, for C: the exact list as bytes, or a refusal: 1, 8, 7 last (01, the table), lengths and room in bytes (01, "What is lent").
 use Prim.Native.Nat.{ℕ}
 use mathlib.Core.List.{List}
-use lib.Dec.{ltb, eqb}
+use lib.Dec.{eqb}
 use lib.ListN.{length}
-use Rattle.lent.specs.Lent.{pick, over}
-use Rattle.refusal.specs.declared.Refusal.{Refusal}
-use Rattle.refusal.specs.declared.Refusal.the-variants.{ProgramLength, Room, NotAskable}
+use Rattle.lent.specs.Lent.{pick}
+use Rattle.lent.specs.Outcome.{Outcome, outcome}
+use Rattle.refusal.specs.declared.Refusal.the-variants.{ProgramLength, NotAskable}
 use Rattle.sh_map.specs.Map.{askableOf}
+use Rattle.writers.specs.declared.Listed.{Listed}
+use Rattle.writers.specs.declared.Listed.the-variants.{Refused}
 use Rattle.writers.specs.List.{writersOf}
+use Rattle.writers.specs.Answer.{filledOf, listedTold}
 use Rattle.wire.specs.Words.{wordsOf, pairsOf}
-use Rattle.host.specs.Told.{counted, Filled, filled, doneTold, refusedTold}
+use Rattle.host.specs.Told.{Filled, filled}
 
--- a refusal leaves the room and the count
-unfoldable pub refusedOf : Refusal → List ℕ → ℕ → Filled
-refusedOf why room count = filled (counted (refusedTold why) count) room
+unfoldable pub listTold : Outcome Listed → ℕ → Filled
+listTold a count = filled (listedTold (a .answer) count) (a .room)
 
--- 7, with the bytes needed; else the bytes in the room
-unfoldable pub bytesFilledOf : List ℕ → List ℕ → ℕ → Filled
-bytesFilledOf l room count =
-    pick (ltb (length room) (length l)) (refusedOf (Room (length l)) room count) (filled (counted doneTold (length l)) (over l room))
-
--- 8; else the list, two bytes for each address
-unfoldable pub askedOf : List ℕ → ℕ → List ℕ → ℕ → Filled
-askedOf p cell room count =
+-- 8; else the list, two bytes for each address, or 7 with the bytes needed
+unfoldable pub askedOf : List ℕ → ℕ → List ℕ → Outcome Listed
+askedOf p cell room =
     pick (askableOf cell)
-    (bytesFilledOf (pairsOf (writersOf p cell) (length (writersOf p cell))) room count)
-    (refusedOf (NotAskable cell) room count)
+    (filledOf (pairsOf (writersOf p cell) (length (writersOf p cell))) room)
+    (outcome (Refused (NotAskable cell)) room)
 
+-- "another length is 1, told in bytes"
 unfoldable pub hostListOf : List ℕ → ℕ → List ℕ → ℕ → Filled
 hostListOf body cell room count =
     pick (eqb (length body) 8192)
-    (askedOf (wordsOf body 4096) cell room count)
-    (refusedOf (ProgramLength (length body)) room count)
+    (listTold (askedOf (wordsOf body 4096) cell room) count)
+    (listTold (outcome (Refused (ProgramLength (length body))) room) count)

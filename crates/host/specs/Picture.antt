@@ -7,13 +7,10 @@ use Rattle.lent.specs.Lent.{pick}
 use Rattle.sh_state.specs.State.{state}
 use Rattle.lent.specs.Outcome.{Outcome}
 use Rattle.picture.specs.declared.Drawn.{Drawn}
-use Rattle.picture.specs.Picture.{pictureOf}
+use Rattle.picture.specs.Picture.{pictureOf, drawnTold}
 use Rattle.wire.specs.Record.{recordOf}
-use Rattle.host.specs.Told.{Counted, counted, Filled, filled, doneTold, refusedTold, shortTold}
-
-unfoldable pub drawnTold : Drawn → ℕ → Counted
-drawnTold (Drawn.Elements n) count = counted doneTold n
-drawnTold (Drawn.Refused why) count = counted (refusedTold why) count
+use Rattle.refusal.specs.Told.{counted}
+use Rattle.host.specs.Told.{Filled, filled, shortTold}
 
 unfoldable pub pictureTold : Outcome Drawn → ℕ → Filled
 pictureTold a count = filled (drawnTold (a .answer) count) (a .room)

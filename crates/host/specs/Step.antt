@@ -6,11 +6,12 @@ use lib.ListN.{length}
 use Rattle.lent.specs.Lent.{pick}
 use Rattle.refusal.specs.declared.Refusal.the-variants.{ProgramLength}
 use Rattle.sh_state.specs.State.{state}
-use Rattle.answer.specs.Answer.{Answered}
+use Rattle.refusal.specs.Told.{Said, refusedTold}
+use Rattle.answer.specs.Answer.{Answered, outcomeTold}
 use Rattle.call_step.specs.Step.{stepOf}
 use Rattle.wire.specs.Record.{recordOf, bytesOf}
 use Rattle.wire.specs.Words.{wordsOf}
-use Rattle.host.specs.Told.{Said, refusedTold, outcomeTold, shortTold}
+use Rattle.host.specs.Told.{shortTold}
 
 -- what is said, and what the lent memory and record then hold
 pub record Stepped : Type 0 where

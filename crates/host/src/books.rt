@@ -4,8 +4,11 @@ use book::Parts;
 use book::Reading;
 use book_write::Written;
 ghost use mathlib.Core.Path.{_≡_};
-ghost use Rattle.host.specs.Told.{said, counted, filled};
-ghost use Rattle.host.specs.Books.{places, found, readTold, hostReadOf, writtenTold, hostWriteOf};
+ghost use Rattle.refusal.specs.Told.{said, counted};
+ghost use Rattle.book.specs.Book.{found, readingTold};
+ghost use Rattle.book_write.specs.Writing.{writtenTold};
+ghost use Rattle.host.specs.Told.{filled};
+ghost use Rattle.host.specs.Books.{places, hostReadOf, hostWriteOf};
 
 fn put(
     p: Parts,
@@ -36,7 +39,7 @@ fn tell_read(
     level_len: &mut u64,
     value: &mut u64,
 ) -> u32
-    ensures { λ r. ⌜ found (said r (now (value .exit))) (places (now (program .exit)) (now («program_len» .exit)) (now (wiring .exit)) (now («wiring_len» .exit)) (now (level .exit)) (now («level_len» .exit))) ≡ readTold a (places (now (program .entry)) (now («program_len» .entry)) (now (wiring .entry)) (now («wiring_len» .entry)) (now (level .entry)) (now («level_len» .entry))) ⌝ }
+    ensures { λ r. ⌜ found (said r (now (value .exit))) (places (now (program .exit)) (now («program_len» .exit)) (now (wiring .exit)) (now («wiring_len» .exit)) (now (level .exit)) (now («level_len» .exit))) ≡ readingTold a (places (now (program .entry)) (now («program_len» .entry)) (now (wiring .entry)) (now («wiring_len» .entry)) (now (level .entry)) (now («level_len» .entry))) ⌝ }
 {
     match a {
         Reading::Parts(p) => {

@@ -6,7 +6,7 @@ use wire::record;
 ghost use mathlib.Core.Path.{_≡_};
 ghost use lib.ListN.{length};
 ghost use Rattle.call_fresh.specs.Fresh.{freshCallOf};
-ghost use Rattle.host.specs.Told.{said};
+ghost use Rattle.refusal.specs.Told.{said};
 ghost use Rattle.host.specs.Step.{stepped, stepTold};
 ghost use Rattle.host.specs.Fresh.{hostFreshOf};
 

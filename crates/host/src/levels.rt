@@ -2,11 +2,12 @@
 use crate::told;
 use level::Levelled;
 ghost use mathlib.Core.Path.{_≡_};
-ghost use Rattle.host.specs.Told.{said};
-ghost use Rattle.host.specs.Level.{levels, levelTold, hostLevelOf};
+ghost use Rattle.refusal.specs.Told.{said};
+ghost use Rattle.level.specs.Level.{levels, levelledTold};
+ghost use Rattle.host.specs.Level.{hostLevelOf};
 
 fn tell(a: Levelled, level: &mut i32, value: &mut u64) -> u32
-    ensures { λ r. ⌜ levels (said r (now (value .exit))) (now (level .exit)) ≡ levelTold a (now (level .entry)) ⌝ }
+    ensures { λ r. ⌜ levels (said r (now (value .exit))) (now (level .exit)) ≡ levelledTold a (now (level .entry)) ⌝ }
 {
     match a {
         Levelled::Level(v) => {

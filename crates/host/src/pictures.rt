@@ -3,11 +3,12 @@ use crate::told;
 use picture::Drawn;
 use wire::record;
 ghost use mathlib.Core.Path.{_≡_};
-ghost use Rattle.picture.specs.Picture.{pictureOf};
+ghost use Rattle.picture.specs.Picture.{pictureOf, drawnTold};
 ghost use Rattle.sh_state.specs.State.{state};
 ghost use Rattle.wire.specs.Record.{recordOf};
-ghost use Rattle.host.specs.Told.{said, counted, filled};
-ghost use Rattle.host.specs.Picture.{drawnTold, pictureTold, hostPictureOf};
+ghost use Rattle.refusal.specs.Told.{said, counted};
+ghost use Rattle.host.specs.Told.{filled};
+ghost use Rattle.host.specs.Picture.{pictureTold, hostPictureOf};
 
 fn tell(a: Drawn, count: &mut u64, value: &mut u64) -> u32
     ensures { λ r. ⌜ counted (said r (now (value .exit))) (now (count .exit)) ≡ drawnTold a (now (count .entry)) ⌝ }

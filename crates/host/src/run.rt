@@ -6,12 +6,12 @@ use wire::record;
 use wire::words;
 ghost use mathlib.Core.Path.{_≡_};
 ghost use lib.ListN.{length};
-ghost use Rattle.call_run.specs.Run.{runCallOf};
+ghost use Rattle.call_run.specs.Run.{runCallOf, stopped, refusedBy, reasonTold};
 ghost use Rattle.sh_state.specs.State.{state};
 ghost use Rattle.wire.specs.Record.{recordOf};
 ghost use Rattle.wire.specs.Words.{wordsOf};
-ghost use Rattle.host.specs.Told.{said, doneTold};
-ghost use Rattle.host.specs.Run.{stopped, stoppedBy, stoppedOf, ran, runTold, hostRunOf};
+ghost use Rattle.refusal.specs.Told.{said, doneTold};
+ghost use Rattle.host.specs.Run.{ran, runTold, hostRunOf};
 
 fn ended(k: u32, n: u64, reason: &mut u32, events: &mut u64, value: &mut u64) -> u32
     ensures { λ r. ⌜ stopped (said r (now (value .exit))) (now (reason .exit)) (now (events .exit)) ≡ stopped doneTold k n ⌝ }
@@ -23,7 +23,7 @@ fn ended(k: u32, n: u64, reason: &mut u32, events: &mut u64, value: &mut u64) ->
 
 // Of the refusals 6 alone has a reason and a count to tell.
 fn refused(why: Refusal, n: u64, reason: &mut u32, events: &mut u64, value: &mut u64) -> u32
-    ensures { λ r. ⌜ stopped (said r (now (value .exit))) (now (reason .exit)) (now (events .exit)) ≡ stoppedBy why n (now (reason .entry)) (now (events .entry)) ⌝ }
+    ensures { λ r. ⌜ stopped (said r (now (value .exit))) (now (reason .exit)) (now (events .exit)) ≡ refusedBy why n (now (reason .entry)) (now (events .entry)) ⌝ }
 {
     if refusal::number(why) == 6 {
         *reason = 1;
@@ -34,7 +34,7 @@ fn refused(why: Refusal, n: u64, reason: &mut u32, events: &mut u64, value: &mut
 }
 
 fn tell(why: Reason, n: u64, reason: &mut u32, events: &mut u64, value: &mut u64) -> u32
-    ensures { λ r. ⌜ stopped (said r (now (value .exit))) (now (reason .exit)) (now (events .exit)) ≡ stoppedOf why n (now (reason .entry)) (now (events .entry)) ⌝ }
+    ensures { λ r. ⌜ stopped (said r (now (value .exit))) (now (reason .exit)) (now (events .exit)) ≡ reasonTold why n (now (reason .entry)) (now (events .entry)) ⌝ }
 {
     match why {
         Reason::Address => ended(0, n, reason, events, value),

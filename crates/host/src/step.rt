@@ -9,7 +9,7 @@ ghost use Rattle.call_step.specs.Step.{stepOf};
 ghost use Rattle.sh_state.specs.State.{state};
 ghost use Rattle.wire.specs.Record.{recordOf};
 ghost use Rattle.wire.specs.Words.{wordsOf};
-ghost use Rattle.host.specs.Told.{said};
+ghost use Rattle.refusal.specs.Told.{said};
 ghost use Rattle.host.specs.Step.{stepped, stepTold, hostStepOf};
 
 fn done(program: &[u8], memory: &mut [u8], bytes: &mut [u8], event: u8, value: &mut u64) -> u32

@@ -4,7 +4,10 @@ use refusal::Refusal;
 use sh_rules::judge;
 use sh_rules::judge::Judged;
 ghost use mathlib.Core.Path.{_≡_};
-ghost use Rattle.host.specs.Told.{said, doneTold, refusedTold, judgedTold, outcomeTold, counted, shortTold};
+ghost use Rattle.refusal.specs.Told.{said, doneTold, refusedTold, counted};
+ghost use Rattle.sh_rules.specs.Judge.{judgedTold};
+ghost use Rattle.answer.specs.Answer.{outcomeTold};
+ghost use Rattle.host.specs.Told.{shortTold};
 
 pub fn done(value: &mut u64) -> u32
     ensures { λ r. ⌜ said r (now (value .exit)) ≡ doneTold ⌝ }

@@ -2,7 +2,7 @@
 use Prim.Native.Nat.{ℕ, _+_, _*_}
 use mathlib.Core.List.{List}
 use lib.Dec.{ltb}
-use lib.IntN.{pos, _-ℤ_}
+use lib.IntN.{ℤ, pos, _-ℤ_}
 use Rattle.lent.specs.Lent.{pick, at}
 use Rattle.refusal.specs.declared.Refusal.the-variants as refusal
 use Rattle.sh_rules.specs.declared.judge.Judged.{Judged}
@@ -11,6 +11,7 @@ use Rattle.sh_rules.specs.Judge.{firstOf, memoryJudged}
 use Rattle.level.specs.declared.Levelled.{Levelled}
 use Rattle.level.specs.declared.Levelled.the-variants as levelled
 use Rattle.body.specs.Body.{highCell, lowCell, groundCode, levelJudged}
+use Rattle.refusal.specs.Told.{Said, doneTold, refusedTold}
 
 -- "Code = 8 x high + low"
 abbrev pub codeOf : ℕ → ℕ → ℕ
@@ -34,3 +35,15 @@ levelledOf (judged.Refused why) l = levelled.Refused why
 -- THE LEVEL: 2, 3, 10, 11, then 9; "A digit is judged only where the body is good"
 unfoldable pub levelOf : List ℕ → List ℕ → Levelled
 levelOf memory level = levelledOf (firstOf (memoryJudged memory) (levelJudged level)) (levelIn memory level)
+
+-- what is told of a level: the level, or what stood there
+pub record Levels : Type 0 where
+  pub told : Said
+  pub level : ℤ
+
+abbrev pub levels : Said → ℤ → Levels
+levels t k = record { told = t; level = k }
+
+unfoldable pub levelledTold : Levelled → ℤ → Levels
+levelledTold (levelled.Level v) old = levels doneTold v
+levelledTold (levelled.Refused why) old = levels (refusedTold why) old

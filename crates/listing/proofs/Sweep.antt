@@ -6,9 +6,11 @@ use native.Mathlib.Omega.{arith}
 use native.Mathlib.Nat.{two-pow-succ}
 use Rattle.lent.specs.Lent.{pick}
 use Rattle.word.specs.declared.Decoded.{Decoded}
-use Rattle.word.specs.Word.{decodeOf, accumulatorOf, transferOf, controlOf}
+use Rattle.refusal.specs.Told.{said, doneTold}
+use Rattle.word.specs.Word.{decodeOf, accumulatorOf, transferOf, controlOf, decodedTold}
 use Rattle.listing.specs.Ranges.{isListed, listed, within, namedBy01, howMany}
 use Rattle.word.proofs.Every.{every, every-at}
+use Rattle.word.proofs.RoundTrip.{decode-refused}
 
 all-agree : every (λ w. Bool·beq (listed w) (namedBy01 w)) 16 0 ≡ true
 unfolding every decodeOf accumulatorOf transferOf controlOf within
@@ -48,6 +50,15 @@ unlisted-count =
     let p = howMany-rest listed 16 0 in
     let q = listed-count in
     omega arith
+
+-- "Reading an unlisted word also answers 6, with the word"; a word that 01 names is read
+pub read-told : (w : ℕ) → w < 65536 → decodedTold (decodeOf w) ≡ pick (namedBy01 w) doneTold (said 6 w)
+unfolding decodedTold
+read-told w h = by-reading (decodeOf w) refl ∙ ap (λ b. pick b doneTold (said 6 w)) (listed-named w h)
+  where
+    by-reading : (d : Decoded) → decodeOf w ≡ d → decodedTold (decodeOf w) ≡ pick (listed w) doneTold (said 6 w)
+    by-reading (Decoded.Listed i) e = rw e
+    by-reading (Decoded.Refused why) e = decode-refused w why e ∙ rw e
 
 -- what a match on the reading of a word leaves
 pub named-at : {d j : Decoded} {r : Bool} (w : ℕ) → w < 65536 → d ≡ decodeOf w → d ≡ j → r ≡ isListed j → r ≡ namedBy01 w

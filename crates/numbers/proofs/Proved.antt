@@ -13,7 +13,8 @@ use Rattle.word.specs.declared.Operation.the-variants.{Sub}
 use Rattle.word.specs.declared.ImmediateOperation.the-variants.{Sbim}
 use Rattle.word.specs.declared.Instruction.the-variants.{Accumulator, Immediate, Daa, Das}
 use Rattle.word.specs.Codes.{immediateOf}
-use Rattle.word.specs.Word.{decodeOf, transferOf, controlOf, encodeOf}
+use Rattle.word.specs.Word.{decodeOf, transferOf, controlOf, encodeOf, decodedTold}
+use Rattle.refusal.specs.Told.{refusedTold}
 use Rattle.alu.specs.declared.Sum.{Sum}
 use Rattle.alu.specs.Alu.{sumOf, calculatedOf, decimalAddedOf, decimalSubtractedOf}
 use Rattle.sh_rules.specs.declared.judge.Judged.the-variants.{Fine}
@@ -154,7 +155,7 @@ a and b = (a, b)
 
 -- THE TWELVE NUMBERS
 pub the-numbers : All Holds table
-unfolding calculatedOf decimalAddedOf decimalSubtractedOf before arrived setPc setAc setCy executeOf onwardOf nextOf tjmpOf decodeOf controlOf encodeOf levelAt writersFrom writesOf writesBy writesIn names changing transferOf immediateOf
+unfolding calculatedOf decimalAddedOf decimalSubtractedOf before arrived setPc setAc setCy executeOf onwardOf nextOf tjmpOf decodeOf controlOf decodedTold refusedTold encodeOf levelAt writersFrom writesOf writesBy writesIn names changing transferOf immediateOf
 the-numbers =
     -- 1 to 3
     (λ s g. accumulates s _ _ _ (rw (g .said .0, g .said .1 .0, g .said .1 .1 .0)), there 0 8 1 9 (omega arith) _ (cell-there 0 8 1 9 (omega arith) and refl and refl and tt))

@@ -5,11 +5,11 @@ use Prim.Native.Nat.{ℕ}
 use lib.IntN.{ℤ}
 use lib.ListN.{replicate, set}
 use Rattle.lent.specs.Lent.{at}
-use Rattle.refusal.specs.declared.Refusal.the-variants.{UnlistedWord}
+use Rattle.refusal.specs.Told.{said}
 use Rattle.word.specs.declared.Instruction.{Instruction}
 use Rattle.word.specs.declared.Decoded.{Decoded}
 use Rattle.word.specs.declared.Encoded.{Encoded}
-use Rattle.word.specs.Word.{decodeOf, encodeOf}
+use Rattle.word.specs.Word.{decodeOf, encodeOf, decodedTold}
 use Rattle.sh_rules.specs.declared.judge.Judged.the-variants.{Fine}
 use Rattle.sh_rules.specs.Judge.{memoryJudged, stateJudged}
 use Rattle.sh_state.specs.State.{State}
@@ -84,7 +84,8 @@ Holds (Executed i before after) =
     ((s : State) → Given before s → All (Is (executeOf s i)) after) × ((s : State) × Given before s)
 -- both ways
 Holds (Names w i) = (decodeOf w ≡ Decoded.Listed i) × (encodeOf i ≡ Encoded.Word w)
-Holds (Unlisted w) = decodeOf w ≡ Decoded.Refused (UnlistedWord w)
+-- 6, with the word
+Holds (Unlisted w) = decodedTold (decodeOf w) ≡ said 6 w
 -- of every such memory and body, and there are some
 Holds (Level high low ground z) =
     ((memory body : List ℕ) → Digits high low ground memory body → levelOf memory body ≡ Levelled.Level z)

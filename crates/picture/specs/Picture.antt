@@ -14,6 +14,7 @@ use Rattle.picture.specs.declared.Drawn.{Drawn}
 use Rattle.picture.specs.declared.Drawn.the-variants as drawn
 use Rattle.lent.specs.Outcome.{Outcome, outcome}
 use Rattle.body.specs.Body.{elementAddress, elementBit, wiringJudged}
+use Rattle.refusal.specs.Told.{Counted, counted, doneTold, refusedTold}
 
 -- a bit of a cell
 unfoldable pub bitOf : ℕ → ℕ → ℕ
@@ -53,3 +54,8 @@ drawnOf (judged.Refused why) shown room = outcome (drawn.Refused why) room
 unfoldable pub pictureOf : State → List ℕ → List ℕ → Outcome Drawn
 pictureOf s wiring room =
     drawnOf (firstOf (stateJudged s) (wiringJudged wiring)) (shownOf (litOf s) (s .memory) wiring) room
+
+-- what is told of a picture: how many elements, beside
+unfoldable pub drawnTold : Drawn → ℕ → Counted
+drawnTold (drawn.Elements n) count = counted doneTold n
+drawnTold (drawn.Refused why) count = counted (refusedTold why) count

@@ -11,6 +11,7 @@ use Rattle.lent.specs.declared.Found.{Found}
 use Rattle.lent.specs.declared.Found.the-variants.{At, Nothing}
 use Rattle.sh_rules.specs.Rules.{brokenFrom, wellFormedOf}
 use Rattle.sh_state.specs.State.{State}
+use Rattle.refusal.specs.Told.{Said, doneTold, refusedTold}
 
 -- 3: the lowest address whose byte breaks the memory rules
 unfoldable pub cellsJudged : Found → Judged
@@ -33,3 +34,8 @@ firstOf (Refused why) b = Refused why
 
 unfoldable pub stateJudged : State → Judged
 stateJudged s = firstOf (memoryJudged (s .memory)) (recordJudged s)
+
+-- what is told of a judgement
+unfoldable pub judgedTold : Judged → Said
+judgedTold Fine = doneTold
+judgedTold (Refused why) = refusedTold why

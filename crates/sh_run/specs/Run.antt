@@ -31,3 +31,9 @@ runOf p target (e ∷ script) s n =
     (pick (reachedOf (eventOf p s e .after .machine) e target)
     (ran (eventOf p s e .after) stop.Address (n + 1))
     (runOf p target script (eventOf p s e .after) (n + 1)))
+
+-- the paper's reasons in their order: "after the first cycle that leaves PC at a given address .., before an unlisted word, or at the script's end"
+abbrev pub stopNumber : Stop → ℕ
+stopNumber stop.Address = 0
+stopNumber stop.Unlisted = 1
+stopNumber stop.End = 2

@@ -6,13 +6,14 @@ use native.Mathlib.Omega.{arith}
 use borrow.Author.Tests.{lt-ltb, le-ltb, eq-eqb, ne-eqb, ltb-true}
 use Rattle.lent.proofs.Laws.{by-lt, by-eq}
 use Rattle.refusal.specs.declared.Refusal.{Refusal}
-use Rattle.refusal.specs.declared.Refusal.the-variants.{UnlistedWord, Field}
+use Rattle.refusal.specs.declared.Refusal.the-variants.{UnlistedWord}
+use Rattle.refusal.specs.Told.{said, refusedTold}
 use Rattle.word.specs.declared.Instruction.{Instruction}
 use Rattle.word.specs.declared.Instruction.the-variants.{Accumulator, Memory, Lda, Sta, Immediate, Ldi, Branch, Call, Daa, Das, Rtnw, Rtni, Halt, Stop, Jmp, Shr, Tjmp, Nop}
 use Rattle.word.specs.declared.Decoded.{Decoded}
 use Rattle.word.specs.declared.Encoded.{Encoded}
 use Rattle.word.specs.Codes.{operationCode, immediateCode, conditionCode}
-use Rattle.word.specs.Word.{decodeOf, accumulatorOf, transferOf, controlOf, encodeOf, inRange, wordOf}
+use Rattle.word.specs.Word.{decodeOf, accumulatorOf, transferOf, controlOf, encodeOf, inRange, wordOf, decodedTold, encodedTold}
 use Rattle.word.proofs.Laws.{both-below, both-lt}
 use Rattle.word.proofs.Codes.{operation-back, immediate-back, condition-back, operation-code, immediate-code, condition-code}
 
@@ -135,8 +136,9 @@ pub decode-encode : (i : Instruction) → inRange i ≡ true → (encodeOf i ≡
 unfolding encodeOf
 decode-encode i e = (rw e, read-back i (wordOf i) e refl)
 
-pub encode-refused : (i : Instruction) → inRange i ≡ false → encodeOf i ≡ Encoded.Refused Field
-unfolding encodeOf
+-- 13
+pub encode-refused : (i : Instruction) → inRange i ≡ false → encodedTold (encodeOf i) ≡ said 13 0
+unfolding encodeOf encodedTold refusedTold
 encode-refused i e = rw e
 
 -- what a word is read as has its fields in range and is written as that word; a refusal is of that word
@@ -190,5 +192,9 @@ encode-decode w i e =
     let g = rw e at (good w) in
     (g .0, rw (g .0, g .1))
 
-pub decode-refused : (w : ℕ) (why : Refusal) → decodeOf w ≡ Decoded.Refused why → why ≡ UnlistedWord w
-decode-refused w why e = rw e at (good w)
+-- 6, with the word
+pub decode-refused : (w : ℕ) (why : Refusal) → decodeOf w ≡ Decoded.Refused why → decodedTold (decodeOf w) ≡ said 6 w
+unfolding decodedTold refusedTold
+decode-refused w why e =
+    let g : why ≡ UnlistedWord w = rw e at (good w) in
+    rw (e, g)

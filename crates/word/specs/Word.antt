@@ -9,6 +9,7 @@ use Rattle.word.specs.declared.Instruction.the-variants.{Accumulator, Me
 use Rattle.word.specs.declared.Decoded.{Decoded}
 use Rattle.word.specs.declared.Encoded.{Encoded}
 use Rattle.word.specs.Codes.{operationOf, immediateOf, conditionOf, operationCode, immediateCode, conditionCode}
+use Rattle.refusal.specs.Told.{Said, doneTold, refusedTold}
 
 -- The fields of a word, in section 17's letters.
 
@@ -117,3 +118,13 @@ wordOf Nop = 0xFFFF  -- 11111 1111 111 1111
 -- An instruction written: its word, or 13 where a field is out of range.
 unfoldable pub encodeOf : Instruction → Encoded
 encodeOf i = pick (inRange i) (Encoded.Word (wordOf i)) (Encoded.Refused Field)
+
+-- what is told of a word that is read
+unfoldable pub decodedTold : Decoded → Said
+decodedTold (Decoded.Listed i) = doneTold
+decodedTold (Decoded.Refused why) = refusedTold why
+
+-- what is told of an instruction that is written
+unfoldable pub encodedTold : Encoded → Said
+encodedTold (Encoded.Word w) = doneTold
+encodedTold (Encoded.Refused why) = refusedTold why

@@ -10,6 +10,7 @@ use Rattle.sh_map.specs.Map.{askableOf}
 use Rattle.writers.specs.declared.Listed.{Listed}
 use Rattle.writers.specs.declared.Listed.the-variants.{Count, Refused}
 use Rattle.writers.specs.List.{writersOf}
+use Rattle.refusal.specs.Told.{Counted, counted, doneTold, refusedTold}
 
 -- 7, with the entries needed; else the list in the room
 unfoldable pub filledOf : List ℕ → List ℕ → Outcome Listed
@@ -22,3 +23,8 @@ listOf p c o =
     pick (eqb (length p) 4096)
     (pick (askableOf c) (filledOf (writersOf p c) o) (outcome (Refused (NotAskable c)) o))
     (outcome (Refused (ProgramLength (length p))) o)
+
+-- what is told of a list: how many entries it has, beside
+unfoldable pub listedTold : Listed → ℕ → Counted
+listedTold (Count n) count = counted doneTold n
+listedTold (Refused why) count = counted (refusedTold why) count

@@ -1,5 +1,5 @@
 -- `host::books::tell_written`: by the answer.
-use Rattle.host.specs.Books.{writtenTold}
+use Rattle.book_write.specs.Writing.{writtenTold}
 use Rattle.host.proofs.Laws.{written-at, counted-said}
 use borrow.Author.Needs.{needs}
 use Rattle.host.proofs.books.tell_written.Statement.{statement}

@@ -1,6 +1,7 @@
 -- `host::list::galhoveia_list`: the same test.
 use borrow.Author.Tests.{eq-eqb, ne-eqb}
-use Rattle.host.specs.List.{refusedOf, hostListOf}
+use Rattle.writers.specs.Answer.{listedTold}
+use Rattle.host.specs.List.{listTold, hostListOf}
 use Rattle.host.proofs.Laws.{filled-said}
 use borrow.Author.Needs.{needs}
 use Rattle.host.proofs.list.galhoveia_list.Statement.{statement}
@@ -10,7 +11,7 @@ refused-requires : tie.Need-refused-requires
 refused-requires c κs = search needs
 
 returns : tie.Need-returns
-unfolding hostListOf refusedOf
+unfolding hostListOf listTold listedTold
 returns c = search (eq-eqb, ne-eqb, filled-said)
 
 asked-requires : tie.Need-asked-requires
@@ -20,7 +21,7 @@ same-length : tie.Need-same-length
 same-length c = search needs
 
 returns-2 : tie.Need-returns-2
-unfolding hostListOf refusedOf
+unfolding hostListOf listTold listedTold
 returns-2 c = search (eq-eqb, ne-eqb, filled-said)
 
 pub galhoveia-list-spec : {M : Type 1} → statement M

@@ -1,5 +1,5 @@
 -- `host::pictures::tell`: by the answer.
-use Rattle.host.specs.Picture.{drawnTold}
+use Rattle.picture.specs.Picture.{drawnTold}
 use Rattle.host.proofs.Laws.{drawn-at, counted-said}
 use borrow.Author.Needs.{needs}
 use Rattle.host.proofs.pictures.tell.Statement.{statement}

@@ -1,5 +1,5 @@
 -- `host::run::tell`: by the reason.
-use Rattle.host.specs.Run.{stoppedOf}
+use Rattle.call_run.specs.Run.{reasonTold}
 use Rattle.host.proofs.Laws.{stopped-at}
 use borrow.Author.Needs.{needs}
 use Rattle.host.proofs.run.tell.Statement.{statement}
@@ -24,15 +24,15 @@ refused-requires : tie.Need-refused-requires
 refused-requires c κs = search needs
 
 returns : tie.Need-returns
-unfolding stoppedOf
+unfolding reasonTold
 returns c = search stopped-at
 
 returns-2 : tie.Need-returns-2
-unfolding stoppedOf
+unfolding reasonTold
 returns-2 c = search stopped-at
 
 returns-3 : tie.Need-returns-3
-unfolding stoppedOf
+unfolding reasonTold
 returns-3 c = search stopped-at
 
 pub tell-spec : {M : Type 1} → statement M

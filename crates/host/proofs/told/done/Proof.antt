@@ -1,5 +1,5 @@
 -- `host::told::done`: two constants.
-use Rattle.host.specs.Told.{doneTold}
+use Rattle.refusal.specs.Told.{doneTold}
 use borrow.Author.Needs.{needs}
 use Rattle.host.proofs.told.done.Statement.{statement}
 use Rattle.host.proofs.told.done.Tie as tie

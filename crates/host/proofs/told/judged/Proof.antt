@@ -1,5 +1,5 @@
 -- `host::told::judged`: by the judgement.
-use Rattle.host.specs.Told.{judgedTold}
+use Rattle.sh_rules.specs.Judge.{judgedTold}
 use Rattle.host.proofs.Laws.{judged-at}
 use borrow.Author.Needs.{needs}
 use Rattle.host.proofs.told.judged.Statement.{statement}

@@ -1,5 +1,5 @@
 -- `host::told::outcome`: by the outcome.
-use Rattle.host.specs.Told.{outcomeTold}
+use Rattle.answer.specs.Answer.{outcomeTold}
 use Rattle.host.proofs.Laws.{outcome-at}
 use borrow.Author.Needs.{needs}
 use Rattle.host.proofs.told.outcome.Statement.{statement}

@@ -1,5 +1,5 @@
 -- `host::told::refused`: two calls, as the definition has them.
-use Rattle.host.specs.Told.{refusedTold}
+use Rattle.refusal.specs.Told.{refusedTold}
 use borrow.Author.Needs.{needs}
 use Rattle.host.proofs.told.refused.Statement.{statement}
 use Rattle.host.proofs.told.refused.Tie as tie
