@@ -1,14 +1,15 @@
--- The record and its 37 bytes turn into each other without loss.
-use Prim.Native.Nat.{ℕ, zero, suc, _+_, _*_, _/_, _%_, _<_}
-use mathlib.Core.Path.{_≡_, ap, sym, _∙_}
-use mathlib.Core.List.{List, [], _∷_}
+-- The record and its 37 bytes turn into each other without loss, and numbers of 16 bits read back from their bytes.
+use Prim.Native.Nat.{ℕ, zero, suc, _+_, _*_, _/_, _%_, _<_, _≤_}
+use mathlib.Core.Path.{_≡_, refl, ap, sym, _∙_}
+use mathlib.Core.List.{List, [], _∷_, _++_, append-assoc}
 use native.Mathlib.Omega.{arith}
-use lib.ListN.{length, getD, drop, drop-of-length-le}
-use lib.Seq.{drop-cons}
+use lib.ListN.{length, getD, take, drop, drop-of-length-le}
+use lib.Seq.{drop-cons, take-suc, getD-append-seam, getD-append-add}
 use Rattle.sh_state.specs.declared.machine.Machine.{Machine}
-use Rattle.lent.specs.Lent.{pairAtOf}
-use Rattle.wire.specs.Words.{pairsOf}
+use Rattle.lent.specs.Lent.{at, pairAtOf}
+use Rattle.wire.specs.Words.{two, pairsOf, wordsOf}
 use Rattle.wire.specs.Record.{bytesOf, recordOf}
+use Rattle.wire.proofs.Laws.{length-pairs}
 
 -- n entries from i on
 abbrev spread : ℕ → ℕ → List ℕ → List ℕ
@@ -51,3 +52,17 @@ pub back-and-there : (l : List ℕ) → length l ≡ 37 → ((k : ℕ) → getD 
 unfolding bytesOf recordOf pairAtOf pairsOf
 back-and-there l n b =
     simp (high (b 0) (b 1), low (getD l 0 0) (b 1), high (b 5) (b 6), low (getD l 5 0) (b 6), high (b 7) (b 8), low (getD l 7 0) (b 8), high (b 9) (b 10), low (getD l 9 0) (b 10), high (b 11) (b 12), low (getD l 11 0) (b 12), high (b 13) (b 14), low (getD l 13 0) (b 14), high (b 15) (b 16), low (getD l 15 0) (b 16), high (b 17) (b 18), low (getD l 17 0) (b 18), high (b 19) (b 20), low (getD l 19 0) (b 20), high (b 21) (b 22), low (getD l 21 0) (b 22), high (b 27) (b 28), low (getD l 27 0) (b 28), high (b 35) (b 36), low (getD l 35 0) (b 36)) (spread-all 37 l n)
+
+-- a number behind other bytes
+pair-behind : (a r : List ℕ) (v : ℕ) → v < 65536 → pairAtOf (a ++ two v r) (length a) ≡ v
+unfolding pairAtOf
+pair-behind a r v h =
+    rw (getD-append-seam a (v / 256 % 256) (v % 256 ∷ r) 0, getD-append-add a (two v r) 1 0) (joined h)
+
+-- the first n numbers, read back from their bytes, whatever follows these
+pub words-back : (w r : List ℕ) (n : ℕ) → n ≤ length w → ((k : ℕ) → at w k < 65536) → wordsOf (pairsOf w n ++ r) n ≡ take n w
+unfolding wordsOf pairsOf
+words-back w r zero h b = refl
+words-back w r (suc n) h b =
+    let v = rw (length-pairs w n) at (pair-behind (pairsOf w n) r (at w n) (b n)) in
+    rw (append-assoc (pairsOf w n) (two (at w n) []) r, words-back w (two (at w n) r) n (omega arith) b, v) (sym (take-suc w n 0 (omega arith)))
