@@ -2,6 +2,7 @@
 #   make demo            builds what is missing and runs the main job on the example book
 #   make test            all tests of the C side; the last line tells how many passed and failed
 #   make test-sanitized  the same with the address and undefined-behaviour sanitizers, with fewer events
+#   make wrong           tries every wrong answer by itself, over the proved crates; make wrong CRATE=sh_map those of one crate
 #   make bench           speed beside the second emulator
 CC = gcc
 CXX = g++
@@ -122,11 +123,14 @@ test-sanitized: build/sanitized/desk build/sanitized/compare build/sanitized/tex
 	    "tests/clean.sh build/sanitized/compare calls --trials build/trials --machines 2 --cell-stride 200" \
 	    "tests/clean.sh build/sanitized/compare runs --events $(SANITIZED_EVENTS)"
 
+wrong:
+	@tests/wrong.sh $(CRATE)
+
 bench: build/plain/measure
 	build/plain/measure
 
 clean:
 	rm -rf build
 
-.PHONY: all archive desk demo test test-sanitized bench clean
+.PHONY: all archive desk demo test test-sanitized wrong bench clean
 .SECONDARY:

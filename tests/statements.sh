@@ -1,9 +1,10 @@
 #!/usr/bin/env bash
-# Every public function of every library crate has an `ensures`, a row in docs/STATEMENTS.md and at least two must-fail edits there, and
-# every must-fail edit is named there.
+# Every public function of every library crate has an `ensures`, a row in docs/STATEMENTS.md and at least two wrong answers there; every
+# wrong answer there has an edit, in wrong/ or in its crate's must-fail, and every edit is named there.
 # Its last line is 'N passed, M failed'.
 set -u
 cd "$(dirname "$0")/.." || exit 2
+. tests/edits.sh
 passed=0 failed=0
 wrong() {
     failed=$((failed + 1))
@@ -25,7 +26,7 @@ for crate in crates/*/; do
             elif [ "$promised" != yes ]; then
                 wrong "$file: $fn has no ensures"
             elif [ "$(printf '%s\n' "$section" | grep -c "^| \`[a-z0-9_]*\` | \`\([A-Za-z0-9_]*::\)*$fn\` |")" -lt 2 ]; then
-                wrong "$file: $fn has fewer than two must-fail edits in docs/STATEMENTS.md"
+                wrong "$file: $fn has fewer than two wrong answers in docs/STATEMENTS.md"
             else
                 passed=$((passed + 1))
             fi
@@ -34,13 +35,13 @@ for crate in crates/*/; do
             head && /ensures/ { has = "yes" }
             head && /\{[ \t]*$/ { print fn, has; head = 0 }' "$file")
     done
-    for edit in "$crate"must-fail/*.edit; do
-        [ -e "$edit" ] || continue
-        label=$(basename "$edit" .edit)
-        if printf '%s\n' "$section" | grep -qF "| \`$label\` |"; then
+    named=$(printf '%s\n' "$section" | sed -n 's/^| `\([a-z0-9_]*\)` | `[A-Za-z0-9_:]*` |.*/\1/p' | sort)
+    edits=$(for edit in $(edits_of "$name"); do answers_in "$edit"; done | cut -d' ' -f1 | sort)
+    for label in $(printf '%s\n' $named $edits | sort -u); do
+        if [ "$(printf '%s\n' $named | grep -cx "$label")/$(printf '%s\n' $edits | grep -cx "$label")" = 1/1 ]; then
             passed=$((passed + 1))
         else
-            wrong "$edit is not named in docs/STATEMENTS.md"
+            wrong "$name: $label is not one row of docs/STATEMENTS.md and one edit"
         fi
     done
 done

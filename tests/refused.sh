@@ -1,0 +1,28 @@
+#!/usr/bin/env bash
+# Reads what rt ci said of each edit in crates/*/must-fail: every wrong answer of the gate was refused because a fact fails, and not only
+# by the shape of the proof. Run it after rt ci. Its last line is 'N passed, M failed'.
+set -u
+cd "$(dirname "$0")/.." || exit 2
+. tests/edits.sh
+passed=0 failed=0
+wrong() {
+    failed=$((failed + 1))
+    echo "FAILED: $1"
+}
+
+for edit in crates/*/must-fail/*.edit; do
+    crate=${edit#crates/}
+    crate=${crate%%/*}
+    log=target/must-fail/$crate/$(basename "$edit" .edit)/.log
+    while read -r name function; do
+        if [ ! -f "$log" ]; then
+            wrong "$crate/$name was not tried"
+        elif [ -z "$(facts "$log" "$crate" "$function")" ]; then
+            wrong "$crate/$name breaks no fact (of $function), or only the shape of the proof ($log)"
+        else
+            passed=$((passed + 1))
+        fi
+    done < <(answers_in "$edit")
+done
+echo "$passed passed, $failed failed"
+[ "$failed" -eq 0 ] && [ "$passed" -gt 0 ]
