@@ -9,6 +9,14 @@ STRICT = -Wall -Wextra -pedantic
 CFLAGS = -O2 $(STRICT)
 SANITIZE = -fsanitize=address,undefined -fno-sanitize-recover=all -fno-omit-frame-pointer
 
+# What is missing is told before anything starts.
+ifneq ($(MAKECMDGOALS),clean)
+MISSING := $(shell tests/missing.sh rt $(firstword $(CC)) $(firstword $(CXX)))
+ifneq ($(MISSING),)
+$(error $(MISSING))
+endif
+endif
+
 EVENTS = 20000000
 SANITIZED_EVENTS = 1000000
 
@@ -24,7 +32,7 @@ LINKED_CXX = $(CXX)
 LINK = $(CC) -o $@ $^
 SANITIZED_LIB = $(LIB)
 else
-KIT := $(abspath $(dir $(realpath $(shell command -v rt)))/../on/$(shell uname -m)/toolchain)
+KIT = $(abspath $(dir $(realpath $(shell command -v rt)))/../on/$(shell uname -m)/toolchain)
 FOREIGN = --target=x86_64-linux-gnu -fPIE -isystem $(shell $(CC) -print-file-name=include) \
     -isystem /usr/include/$(shell $(CC) -print-multiarch) -isystem /usr/include
 LINKED_CC = $(KIT)/bin/clang $(FOREIGN)
@@ -110,8 +118,8 @@ build/sanitized/text: $(patsubst %.c,build/sanitized/objects/%.o,$(TEXT) second/
 # ---- Tests ----
 
 test: build/plain/header build/plain/header-cpp build/plain/desk build/plain/compare build/native/text build/native/trials
-	@tests/all.sh "tests/header.sh $(CC) $(CXX)" build/plain/header build/plain/header-cpp build/native/text \
-	    "tests/desk.sh build/plain/desk" "build/native/trials build/trials" \
+	@tests/all.sh tests/newcomer.sh "tests/header.sh $(CC) $(CXX)" build/plain/header build/plain/header-cpp \
+	    build/native/text "tests/desk.sh build/plain/desk" "build/native/trials build/trials" \
 	    "tests/beside.sh 'build/plain/compare calls --trials build/trials' 'build/plain/compare runs --events $(EVENTS)'"
 
 # A finding ends with 99, which no command of the desk does. Leaks are not looked for: every command would take seconds
