@@ -2,7 +2,7 @@
 #   make demo            builds what is missing and runs the main job on the example book
 #   make test            all tests of the C side; the last line tells how many passed and failed
 #   make test-sanitized  the same with the address and undefined-behaviour sanitizers, with fewer events
-#   make bench           speed beside the second emulator
+#   make bench           speed beside the second emulator, natively
 CC = gcc
 CXX = g++
 STRICT = -Wall -Wextra -pedantic
@@ -25,12 +25,14 @@ LIB = target/staticlib/libhost.a
 
 # The library holds x86-64 code. On another processor what links with it is compiled for x86-64 by the kit's compiler,
 # with the system's headers, and runs under the kit's emulator; the sanitized build is native, with a stand-in for the
-# library.
+# library, and so is the bench, with the proved library compiled for that processor. On x86-64 that one can be measured
+# too, by make bench BENCH_LIB=build/bench/host.o
 ifeq ($(shell uname -m),x86_64)
 LINKED_CC = $(CC)
 LINKED_CXX = $(CXX)
 LINK = $(CC) -o $@ $^
 SANITIZED_LIB = $(LIB)
+BENCH_LIB = $(LIB)
 else
 KIT = $(abspath $(dir $(realpath $(shell command -v rt)))/../on/$(shell uname -m)/toolchain)
 FOREIGN = --target=x86_64-linux-gnu -fPIE -isystem $(shell $(CC) -print-file-name=include) \
@@ -39,8 +41,10 @@ LINKED_CC = $(KIT)/bin/clang $(FOREIGN)
 LINKED_CXX = $(KIT)/bin/clang --driver-mode=g++ $(FOREIGN)
 LINK = tests/link-foreign.sh $(KIT) $@ $^
 SANITIZED_LIB = build/sanitized/libstandin.a
+BENCH_LIB = build/bench/host.o
 endif
 
+CRATES = crates.txt $(wildcard crates/*/src/*.rt)
 SECOND = second/second.c second/search.c second/instruction.c
 DESK = $(wildcard desk/*.c)
 COMPARE = $(wildcard tests/compare*.c) tests/support.c tests/counting.c tests/machines.c tests/forms.c
@@ -52,16 +56,20 @@ all: desk
 
 archive: $(LIB)
 
-target/staticlib/libhost.a: crates.txt $(wildcard crates/*/src/*.rt)
+target/staticlib/libhost.a: $(CRATES)
 	rt staticlib host
 	@touch $@
+
+build/bench/host.o: bench/native.sh $(CRATES)
+	@mkdir -p $(dir $@)
+	bench/native.sh $@
 
 desk: build/plain/desk
 
 demo: build/plain/desk
 	build/plain/desk demo examples
 
-# ---- Objects: linked with the library, native, and native with sanitizers ----
+# ---- Objects: linked with the library, native, native with sanitizers, and native for the bench ----
 
 build/plain/objects/%.o: %.c $(HEADERS)
 	@mkdir -p $(dir $@)
@@ -79,6 +87,10 @@ build/sanitized/objects/%.o: %.c $(HEADERS)
 	@mkdir -p $(dir $@)
 	$(CC) -std=c11 $(CFLAGS) $(SANITIZE) -c -o $@ $<
 
+build/bench/objects/%.o: %.c $(HEADERS)
+	@mkdir -p $(dir $@)
+	$(CC) -std=c11 -O3 $(STRICT) -c -o $@ $<
+
 build/sanitized/libstandin.a: $(patsubst %.c,build/sanitized/objects/%.o,tests/standin.c $(SECOND))
 	rm -f $@
 	ar rcs $@ $^
@@ -91,8 +103,9 @@ build/plain/desk: $(DESK:%.c=build/plain/objects/%.o) $(LIB)
 build/plain/compare: $(patsubst %.c,build/plain/objects/%.o,$(COMPARE) $(SECOND)) $(LIB)
 	$(LINK)
 
-build/plain/measure: $(patsubst %.c,build/plain/objects/%.o,bench/bench.c $(SECOND)) $(LIB)
-	$(LINK)
+# Linked each time, so that it has the library that was asked for.
+build/bench/measure: $(patsubst %.c,build/bench/objects/%.o,bench/bench.c $(SECOND)) $(BENCH_LIB)
+	$(CC) -o $@ $^
 
 build/plain/header: build/plain/objects/tests/header.o $(LIB)
 	$(LINK)
@@ -130,11 +143,12 @@ test-sanitized: build/sanitized/desk build/sanitized/compare build/sanitized/tex
 	    "tests/clean.sh build/sanitized/compare calls --trials build/trials --machines 2 --cell-stride 200" \
 	    "tests/clean.sh build/sanitized/compare runs --events $(SANITIZED_EVENTS)"
 
-bench: build/plain/measure
-	build/plain/measure
+bench: build/bench/measure
+	@echo "natively on $(shell uname -m); the second emulator is built with -O3"
+	@build/bench/measure
 
 clean:
 	rm -rf build
 
-.PHONY: all archive desk demo test test-sanitized bench clean
+.PHONY: all archive desk demo test test-sanitized bench build/bench/measure clean
 .SECONDARY:
