@@ -3,12 +3,20 @@
 #   make test            all tests of the C side; the last line tells how many passed and failed
 #   make test-sanitized  the same with the address and undefined-behaviour sanitizers, with fewer events
 #   make wrong           tries every wrong answer by itself, over the proved crates; make wrong CRATE=sh_map those of one crate
-#   make bench           speed beside the second emulator
+#   make bench           speed beside the second emulator, natively
 CC = gcc
 CXX = g++
 STRICT = -Wall -Wextra -pedantic
 CFLAGS = -O2 $(STRICT)
 SANITIZE = -fsanitize=address,undefined -fno-sanitize-recover=all -fno-omit-frame-pointer
+
+# What is missing is told before anything starts.
+ifneq ($(MAKECMDGOALS),clean)
+MISSING := $(shell tests/missing.sh rt $(firstword $(CC)) $(firstword $(CXX)))
+ifneq ($(MISSING),)
+$(error $(MISSING))
+endif
+endif
 
 EVENTS = 20000000
 SANITIZED_EVENTS = 1000000
@@ -18,22 +26,26 @@ LIB = target/staticlib/libhost.a
 
 # The library holds x86-64 code. On another processor what links with it is compiled for x86-64 by the kit's compiler,
 # with the system's headers, and runs under the kit's emulator; the sanitized build is native, with a stand-in for the
-# library.
+# library, and so is the bench, with the proved library compiled for that processor. On x86-64 that one can be measured
+# too, by make bench BENCH_LIB=build/bench/host.o
 ifeq ($(shell uname -m),x86_64)
 LINKED_CC = $(CC)
 LINKED_CXX = $(CXX)
 LINK = $(CC) -o $@ $^
 SANITIZED_LIB = $(LIB)
+BENCH_LIB = $(LIB)
 else
-KIT := $(abspath $(dir $(realpath $(shell command -v rt)))/../on/$(shell uname -m)/toolchain)
+KIT = $(abspath $(dir $(realpath $(shell command -v rt)))/../on/$(shell uname -m)/toolchain)
 FOREIGN = --target=x86_64-linux-gnu -fPIE -isystem $(shell $(CC) -print-file-name=include) \
     -isystem /usr/include/$(shell $(CC) -print-multiarch) -isystem /usr/include
 LINKED_CC = $(KIT)/bin/clang $(FOREIGN)
 LINKED_CXX = $(KIT)/bin/clang --driver-mode=g++ $(FOREIGN)
 LINK = tests/link-foreign.sh $(KIT) $@ $^
 SANITIZED_LIB = build/sanitized/libstandin.a
+BENCH_LIB = build/bench/host.o
 endif
 
+CRATES = crates.txt $(wildcard crates/*/src/*.rt)
 SECOND = second/second.c second/search.c second/instruction.c
 DESK = $(wildcard desk/*.c)
 COMPARE = $(wildcard tests/compare*.c) tests/support.c tests/counting.c tests/machines.c tests/forms.c
@@ -45,16 +57,20 @@ all: desk
 
 archive: $(LIB)
 
-target/staticlib/libhost.a: crates.txt $(wildcard crates/*/src/*.rt)
+target/staticlib/libhost.a: $(CRATES)
 	rt staticlib host
 	@touch $@
+
+build/bench/host.o: bench/native.sh $(CRATES)
+	@mkdir -p $(dir $@)
+	bench/native.sh $@
 
 desk: build/plain/desk
 
 demo: build/plain/desk
 	build/plain/desk demo examples
 
-# ---- Objects: linked with the library, native, and native with sanitizers ----
+# ---- Objects: linked with the library, native, native with sanitizers, and native for the bench ----
 
 build/plain/objects/%.o: %.c $(HEADERS)
 	@mkdir -p $(dir $@)
@@ -72,6 +88,10 @@ build/sanitized/objects/%.o: %.c $(HEADERS)
 	@mkdir -p $(dir $@)
 	$(CC) -std=c11 $(CFLAGS) $(SANITIZE) -c -o $@ $<
 
+build/bench/objects/%.o: %.c $(HEADERS)
+	@mkdir -p $(dir $@)
+	$(CC) -std=c11 -O3 $(STRICT) -c -o $@ $<
+
 build/sanitized/libstandin.a: $(patsubst %.c,build/sanitized/objects/%.o,tests/standin.c $(SECOND))
 	rm -f $@
 	ar rcs $@ $^
@@ -84,8 +104,9 @@ build/plain/desk: $(DESK:%.c=build/plain/objects/%.o) $(LIB)
 build/plain/compare: $(patsubst %.c,build/plain/objects/%.o,$(COMPARE) $(SECOND)) $(LIB)
 	$(LINK)
 
-build/plain/measure: $(patsubst %.c,build/plain/objects/%.o,bench/bench.c $(SECOND)) $(LIB)
-	$(LINK)
+# Linked each time, so that it has the library that was asked for.
+build/bench/measure: $(patsubst %.c,build/bench/objects/%.o,bench/bench.c $(SECOND)) $(BENCH_LIB)
+	$(CC) -o $@ $^
 
 build/plain/header: build/plain/objects/tests/header.o $(LIB)
 	$(LINK)
@@ -111,8 +132,8 @@ build/sanitized/text: $(patsubst %.c,build/sanitized/objects/%.o,$(TEXT) second/
 # ---- Tests ----
 
 test: build/plain/header build/plain/header-cpp build/plain/desk build/plain/compare build/native/text build/native/trials
-	@tests/all.sh "tests/header.sh $(CC) $(CXX)" build/plain/header build/plain/header-cpp build/native/text \
-	    "tests/desk.sh build/plain/desk" "build/native/trials build/trials" \
+	@tests/all.sh tests/newcomer.sh "tests/header.sh $(CC) $(CXX)" build/plain/header build/plain/header-cpp \
+	    build/native/text "tests/desk.sh build/plain/desk" "build/native/trials build/trials" \
 	    "tests/beside.sh 'build/plain/compare calls --trials build/trials' 'build/plain/compare runs --events $(EVENTS)'"
 
 # A finding ends with 99, which no command of the desk does. Leaks are not looked for: every command would take seconds
@@ -126,11 +147,12 @@ test-sanitized: build/sanitized/desk build/sanitized/compare build/sanitized/tex
 wrong:
 	@tests/wrong.sh $(CRATE)
 
-bench: build/plain/measure
-	build/plain/measure
+bench: build/bench/measure
+	@echo "natively on $(shell uname -m); the second emulator is built with -O3"
+	@build/bench/measure
 
 clean:
 	rm -rf build
 
-.PHONY: all archive desk demo test test-sanitized wrong bench clean
+.PHONY: all archive desk demo test test-sanitized wrong bench build/bench/measure clean
 .SECONDARY:
