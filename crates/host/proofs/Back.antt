@@ -20,15 +20,18 @@ use Rattle.wire.proofs.Trips.{words-back}
 use Rattle.host.specs.Told.{Filled}
 use Rattle.host.specs.List.{listTold, askedOf, hostListOf}
 
+one-more-small : (a b : ℕ) (l : List ℕ) (k : ℕ) → a < b → ((j : ℕ) → at l j < b) → at (a ∷ l) k < b
+one-more-small a b l zero h f = h
+one-more-small a b l (suc j) h f = f j
+
 -- an address of a program lies within it; past the list's end 0 stands
 from-small : (a : ℕ) (p : List ℕ) (c k : ℕ) → at (writersFrom a p c) k < a + length p + 1
 unfolding writersFrom
 from-small a [] c k = omega arith
-from-small a (w ∷ p) c k = by-test (λ (l : List ℕ). at l k < a + suc (length p) + 1) (writesOf w c) _ _ (λ _. listed k) (λ _. omega (arith, from-small (a + 1) p c k))
-  where
-    listed : (k : ℕ) → at (a ∷ writersFrom (a + 1) p c) k < a + suc (length p) + 1
-    listed zero = omega arith
-    listed (suc j) = omega (arith, from-small (a + 1) p c j)
+from-small a (w ∷ p) c k =
+    by-test (λ (l : List ℕ). at l k < a + suc (length p) + 1) (writesOf w c) _ _
+    (λ _. one-more-small a (a + suc (length p) + 1) (writersFrom (a + 1) p c) k (omega arith) (λ j. omega (arith, from-small (a + 1) p c j)))
+    (λ _. omega (arith, from-small (a + 1) p c k))
 
 -- the bytes of a list and whatever follows them, read as words
 bytes-back : (p : List ℕ) (c : ℕ) (r : List ℕ) → length p ≡ 4096 → wordsOf (pairsOf (writersOf p c) (length (writersOf p c)) ++ r) (length (writersOf p c)) ≡ writersOf p c
