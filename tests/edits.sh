@@ -1,4 +1,4 @@
-# What the tests know of an edit file and of a check's log; read by tests/wrong.sh, tests/refused.sh and tests/statements.sh.
+# What the tests know of an edit file and of a check's log; read by tests/wrong.sh, refused.sh, statements.sh and sizes.sh.
 # A file under wrong/CRATE or crates/CRATE/must-fail holds one wrong answer, named as the file, or several, each behind a line
 # 'wrong: NAME FUNCTION' with the function whose proof must miss a fact.
 
@@ -48,4 +48,18 @@ facts() {
     grep -E ': error: |^fn .*: no proof' "$1" |
         grep -vE 'was not admitted|has no `Need-|has no field|-spec`: .*tie\.Need-' |
         if [ "$3" = - ]; then cat; else grep -F -e "/proofs/${3//:://}/Proof.antt:" -e "fn $2::$3: no proof"; fi
+}
+
+# What a test counts, and how it ends: in a last line 'N passed, M failed'.
+passed=0 failed=0
+holds() {
+    passed=$((passed + 1))
+}
+fails() {
+    failed=$((failed + 1))
+    echo "FAILED: $1"
+}
+counted() {
+    echo "$passed passed, $failed failed"
+    [ "$failed" -eq 0 ] && [ "$passed" -gt 0 ]
 }

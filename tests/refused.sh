@@ -4,25 +4,18 @@
 set -u
 cd "$(dirname "$0")/.." || exit 2
 . tests/edits.sh
-passed=0 failed=0
-wrong() {
-    failed=$((failed + 1))
-    echo "FAILED: $1"
-}
-
 for edit in crates/*/must-fail/*.edit; do
     crate=${edit#crates/}
     crate=${crate%%/*}
     log=target/must-fail/$crate/$(basename "$edit" .edit)/.log
     while read -r name function; do
         if [ ! -f "$log" ]; then
-            wrong "$crate/$name was not tried"
+            fails "$crate/$name was not tried"
         elif [ -z "$(facts "$log" "$crate" "$function")" ]; then
-            wrong "$crate/$name breaks no fact (of $function), or only the shape of the proof ($log)"
+            fails "$crate/$name breaks no fact (of $function), or only the shape of the proof ($log)"
         else
-            passed=$((passed + 1))
+            holds
         fi
     done < <(answers_in "$edit")
 done
-echo "$passed passed, $failed failed"
-[ "$failed" -eq 0 ] && [ "$passed" -gt 0 ]
+counted

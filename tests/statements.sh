@@ -5,12 +5,6 @@
 set -u
 cd "$(dirname "$0")/.." || exit 2
 . tests/edits.sh
-passed=0 failed=0
-wrong() {
-    failed=$((failed + 1))
-    echo "FAILED: $1"
-}
-
 for crate in crates/*/; do
     name=$(basename "$crate")
     section=$(awk -v s="## \`$name\`" '$0 == s { on = 1; next } /^## / { on = 0 } on' docs/STATEMENTS.md)
@@ -22,13 +16,13 @@ for crate in crates/*/; do
         while read -r fn promised; do
             row="^| \`\([A-Za-z0-9_]*::\)*$fn\` | [^\`]"
             if ! printf '%s\n' "$section" | grep -q "$row"; then
-                wrong "$file: $fn has no row in docs/STATEMENTS.md"
+                fails "$file: $fn has no row in docs/STATEMENTS.md"
             elif [ "$promised" != yes ]; then
-                wrong "$file: $fn has no ensures"
+                fails "$file: $fn has no ensures"
             elif [ "$(printf '%s\n' "$section" | grep -c "^| \`[a-z0-9_]*\` | \`\([A-Za-z0-9_]*::\)*$fn\` |")" -lt 2 ]; then
-                wrong "$file: $fn has fewer than two wrong answers in docs/STATEMENTS.md"
+                fails "$file: $fn has fewer than two wrong answers in docs/STATEMENTS.md"
             else
-                passed=$((passed + 1))
+                holds
             fi
         done < <(awk '
             match($0, /^[ \t]*pub (extern "C" )?fn [a-z_0-9]+/) { fn = substr($0, RSTART, RLENGTH); sub(/.* /, "", fn); has = "no"; head = 1 }
@@ -39,11 +33,13 @@ for crate in crates/*/; do
     edits=$(for edit in $(edits_of "$name"); do answers_in "$edit"; done | cut -d' ' -f1 | sort)
     for label in $(printf '%s\n' $named $edits | sort -u); do
         if [ "$(printf '%s\n' $named | grep -cx "$label")/$(printf '%s\n' $edits | grep -cx "$label")" = 1/1 ]; then
-            passed=$((passed + 1))
+            holds
         else
-            wrong "$name: $label is not one row of docs/STATEMENTS.md and one edit"
+            fails "$name: $label is not one row of docs/STATEMENTS.md and one edit"
         fi
     done
 done
-echo "$passed passed, $failed failed"
-[ "$failed" -eq 0 ]
+for folder in wrong/*/; do
+    if [ -d "crates/$(basename "$folder")" ]; then holds; else fails "$folder is of no crate"; fi
+done
+counted
