@@ -4,7 +4,7 @@
 
 # edits_of CRATE: its edit files
 edits_of() {
-    find "wrong/$1" "crates/$1/must-fail" -name '*.edit' 2>/dev/null | LC_ALL=C sort
+    find "wrong/$1" "crates/$1/must-fail" -maxdepth 1 -name '*.edit' 2>/dev/null | LC_ALL=C sort
 }
 
 # answers_in EDIT: a line 'NAME FUNCTION' for each wrong answer; the function is - where the file holds one
@@ -44,9 +44,10 @@ apply() {
 
 # facts LOG CRATE FUNCTION: the facts that a check missed, in one function's proof, or for - in any. What only follows from another error
 # is none, and neither is a proof whose needs, or the fields of what a place knows, are no longer those of the code: that is its shape.
+# The last term of a proof, F-spec, only puts the others together.
 facts() {
-    grep -E ': error: |^fn .*: no proof' "$1" |
-        grep -vE 'was not admitted|has no `Need-|has no field|-spec`: .*tie\.Need-' |
+    grep -E '/proofs/[^ ]*: error: |^fn .*: no proof' "$1" |
+        grep -vE 'was not admitted|has no `Need-|has no field|: error: `[^ ]*-spec`' |
         if [ "$3" = - ]; then cat; else grep -F -e "/proofs/${3//:://}/Proof.antt:" -e "fn $2::$3: no proof"; fi
 }
 

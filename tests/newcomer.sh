@@ -47,9 +47,11 @@ is_told() {
 }
 
 every_way() {
+    is_told "$1" make
     is_told "$1" make demo
     is_told "$1" make test
     is_told "$1" make test-sanitized
+    is_told "$1" make wrong
     is_told "$1" make bench
     is_told "$1" ./check
 }

@@ -29,10 +29,14 @@ for crate in crates/*/; do
             head && /ensures/ { has = "yes" }
             head && /\{[ \t]*$/ { print fn, has; head = 0 }' "$file")
     done
+    for edit in $(edits_of "$name"); do
+        # wrong answers that are tried together are of one function each
+        if [ -z "$(answers_in "$edit" | cut -d' ' -f2 | sort | uniq -d)" ]; then holds; else fails "$edit has two wrong answers of one function"; fi
+    done
     named=$(printf '%s\n' "$section" | sed -n 's/^| `\([a-z0-9_]*\)` | `[A-Za-z0-9_:]*` |.*/\1/p' | sort)
     edits=$(for edit in $(edits_of "$name"); do answers_in "$edit"; done | cut -d' ' -f1 | sort)
     for label in $(printf '%s\n' $named $edits | sort -u); do
-        if [ "$(printf '%s\n' $named | grep -cx "$label")/$(printf '%s\n' $edits | grep -cx "$label")" = 1/1 ]; then
+        if [ "$(printf '%s\n' $named | grep -cxF "$label")/$(printf '%s\n' $edits | grep -cxF "$label")" = 1/1 ]; then
             holds
         else
             fails "$name: $label is not one row of docs/STATEMENTS.md and one edit"

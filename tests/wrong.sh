@@ -9,7 +9,8 @@ set -u
 cd "$(dirname "$0")/.." || exit 2
 . tests/edits.sh
 top=$(pwd -P)
-jobs=${RT_JOBS:-$(nproc)}
+cores=$(nproc)
+jobs=${RT_JOBS:-$((cores < 8 ? cores : 8))}
 
 # copy CRATE ROOM: the crate as it is
 copy() {
@@ -28,7 +29,7 @@ try() {
         echo "FAILED: $1/$4: $why"
         return
     fi
-    (cd "$2" && rt dev "$1") >"$log" 2>&1
+    (cd "$2" && rt dev "$1") >"$log" 2>&1 </dev/null
     if grep -q '^logic=proved' "$log"; then
         echo "FAILED: $1/$4 is accepted"
     elif ! grep -q '^logic=not-proved' "$log"; then
@@ -53,7 +54,7 @@ try_crate() {
         [ "$other" = "$1" ] || ln -s "$top/crates/$other" "$room/crates/$other"
     done
     copy "$1" "$room"
-    if ! (cd "$room" && rt dev "$1") >"$room/logs/as-it-is" 2>&1; then
+    if ! (cd "$room" && rt dev "$1") >"$room/logs/as-it-is" 2>&1 </dev/null; then
         echo "FAILED: $1 is not proved as it is ($room/logs/as-it-is)"
         return
     fi
@@ -68,15 +69,15 @@ if [ $# -eq 0 ]; then
         [ -z "$(edits_of "$crate")" ] || set -- "$@" "$crate"
     done
 fi
+asked=0
 for crate; do
-    [ -n "$(edits_of "$crate")" ] || { echo "$crate has no wrong answers"; echo "0 passed, 1 failed"; exit 1; }
+    here=$(for edit in $(edits_of "$crate"); do answers_in "$edit"; done | wc -l)
+    [ "$here" -gt 0 ] || fails "$crate has no wrong answers"
+    asked=$((asked + here))
 done
 mkdir -p target
-if ! rt check "$@" >target/wrong.log 2>&1; then
-    tail -n 3 target/wrong.log
-    echo "0 passed, 1 failed"
-    exit 1
-fi
+[ "$failed" -gt 0 ] || rt check "$@" >target/wrong.log 2>&1 || fails "not all is proved: $(tail -n 1 target/wrong.log)"
+[ "$failed" -eq 0 ] || { counted; exit 1; }
 results=$(mktemp)
 trap 'rm -f "$results"' EXIT
 for crate; do
@@ -86,5 +87,5 @@ done
 wait
 passed=$(grep -c '^ok' "$results")
 failed=$(grep -c '^FAILED' "$results")
-echo "$passed passed, $failed failed"
-[ "$failed" -eq 0 ] && [ "$passed" -gt 0 ]
+[ $((passed + failed)) -eq "$asked" ] || fails "of $asked wrong answers $((passed + failed)) were tried"
+counted

@@ -32,11 +32,10 @@ use Rattle.picture.specs.declared.Drawn.{Drawn}
 use Rattle.book_write.specs.declared.Written.{Written}
 use Rattle.book.specs.declared.Reading.{Reading}
 use Rattle.book.specs.declared.Parts.{Parts}
-use Rattle.host.specs.Told.{filled}
+use Rattle.host.specs.Told.{filled, roomTold}
 use Rattle.host.specs.Step.{stepped, stepTold}
 use Rattle.host.specs.Run.{ran, runTold}
-use Rattle.host.specs.Picture.{pictureTold}
-use Rattle.host.specs.Books.{hostReadOf, bookTold, hostWriteOf}
+use Rattle.host.specs.Books.{hostReadOf, hostWriteOf}
 
 pub judged-at : {i j : Judged} {r : Said} → i ≡ j → r ≡ judgedTold j → r ≡ judgedTold i
 judged-at p q = q ∙ sym (ap judgedTold p)
@@ -110,15 +109,15 @@ run-told body l b script stop reason events w m a k n p q r h s t = rw (← p, �
 
 pub picture-told : (l b wiring room : List ℕ) (count : ℕ) (m : Machine) (a : Outcome Drawn) (k : Counted) →
     m ≡ recordOf b → a ≡ pictureOf (state m l) wiring room → k ≡ drawnTold (a .answer) count →
-    filled k (a .room) ≡ pictureTold (pictureOf (state (recordOf b) l) wiring room) count
-unfolding pictureTold
+    filled k (a .room) ≡ roomTold drawnTold (pictureOf (state (recordOf b) l) wiring room) count
+unfolding roomTold
 picture-told l b wiring room count m a k p q r = rw (← p, ← q, r)
 
 pub book-told : (program wiring level room : List ℕ) (count : ℕ) (a : Outcome Written) (k : Counted) →
     a ≡ writeOf program wiring level room → k ≡ writtenTold (a .answer) count → filled k (a .room) ≡ hostWriteOf program wiring level room count
-unfolding hostWriteOf bookTold
+unfolding hostWriteOf roomTold
 book-told program wiring level room count a k p q = rw (← p, q)
 
-pub read-told : (file : List ℕ) (old : Parts) {a : Reading} {f : Found} → a ≡ readOf file → f ≡ readingTold a old → f ≡ hostReadOf file old
+pub book-read-told : (file : List ℕ) (old : Parts) {a : Reading} {f : Found} → a ≡ readOf file → f ≡ readingTold a old → f ≡ hostReadOf file old
 unfolding hostReadOf
-read-told file old p q = rw (← p) q
+book-read-told file old p q = rw (← p) q

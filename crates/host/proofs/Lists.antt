@@ -20,8 +20,8 @@ use Rattle.writers.specs.Answer.{filledOf, listOf, listedTold}
 use Rattle.lent.specs.Outcome.{Outcome, outcome}
 use Rattle.wire.specs.Words.{pairsOf}
 use Rattle.wire.proofs.Laws.{length-pairs, pairs-front}
-use Rattle.host.specs.Told.{Filled, filled}
-use Rattle.host.specs.List.{listTold, askedOf}
+use Rattle.host.specs.Told.{Filled, filled, roomTold}
+use Rattle.host.specs.List.{askedOf}
 
 from-within : (a : ℕ) (p : List ℕ) (c : ℕ) → length (writersFrom a p c) ≤ length p
 unfolding writersFrom
@@ -86,24 +86,24 @@ module _ (p w : List ℕ) (c : ℕ) (o t : List ℕ) (a : Listed) (q : w ≡ p) 
   pub counted-within : (n : ℕ) → a ≡ Count n → length p ≡ 4096 → n ≤ 4096
   counted-within n k h = omega (arith, counted-is p c o t n (answer-known k) .1, list-within p c)
 
-  pub counted-told : (n count : ℕ) (room : List ℕ) {r : Filled} → a ≡ Count n → r ≡ listTold (filledOf (pairsOf t n) room) count → r ≡ listTold (askedOf p c room) count
+  pub counted-told : (n count : ℕ) (room : List ℕ) {r : Filled} → a ≡ Count n → r ≡ roomTold listedTold (filledOf (pairsOf t n) room) count → r ≡ roomTold listedTold (askedOf p c room) count
   unfolding askedOf
   counted-told n count room k u = rw (counted-is p c o t n (answer-known k) .0, ← counted-bytes p c o t n (answer-known k)) u
 
-  pub refused-told : (why : Refusal) (count : ℕ) (room : List ℕ) {s : Said} → a ≡ Refused why → length p ≡ 4096 → length o ≡ 4096 → s ≡ refusedTold why → filled (counted s count) room ≡ listTold (askedOf p c room) count
-  unfolding askedOf listTold listedTold
+  pub refused-told : (why : Refusal) (count : ℕ) (room : List ℕ) {s : Said} → a ≡ Refused why → length p ≡ 4096 → length o ≡ 4096 → s ≡ refusedTold why → filled (counted s count) room ≡ roomTold listedTold (askedOf p c room) count
+  unfolding askedOf roomTold listedTold
   refused-told why count room k f g u =
       let s = refused-is p c o t why f g (answer-known k) in
       rw (s .0, ← s .1, u)
 
 -- The bytes of n numbers in the room, or 7.
 module _ (t room : List ℕ) (n count : ℕ) where
-  pub no-room : {s : Said} → length room < n * 2 → s ≡ refusedTold (Room (n * 2)) → filled (counted s count) room ≡ listTold (filledOf (pairsOf t n) room) count
-  unfolding filledOf listTold listedTold
+  pub no-room : {s : Said} → length room < n * 2 → s ≡ refusedTold (Room (n * 2)) → filled (counted s count) room ≡ roomTold listedTold (filledOf (pairsOf t n) room) count
+  unfolding filledOf roomTold listedTold
   no-room h e = rw (length-pairs t n, lt-ltb (length room) (n * 2) h, e)
 
-  pub in-room : {o : List ℕ} {k : Counted} → n * 2 ≤ length room → o ≡ pastedOf room 0 (pairsOf t n) → k ≡ counted doneTold (n * 2) → filled k o ≡ listTold (filledOf (pairsOf t n) room) count
-  unfolding filledOf listTold listedTold over
+  pub in-room : {o : List ℕ} {k : Counted} → n * 2 ≤ length room → o ≡ pastedOf room 0 (pairsOf t n) → k ≡ counted doneTold (n * 2) → filled k o ≡ roomTold listedTold (filledOf (pairsOf t n) room) count
+  unfolding filledOf roomTold listedTold over
   in-room h e g =
       let f = pasted-front room (pairsOf t n) (omega (arith, length-pairs t n)) in
       rw (e, f, g, length-pairs t n, le-ltb (length room) (n * 2) h)

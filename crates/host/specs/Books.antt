@@ -2,11 +2,9 @@
 use Prim.Native.Nat.{ℕ}
 use mathlib.Core.List.{List}
 use Rattle.book.specs.declared.Parts.{Parts}
-use Rattle.book_write.specs.declared.Written.{Written}
-use Rattle.lent.specs.Outcome.{Outcome}
 use Rattle.book.specs.Book.{place, readOf, Found, readingTold}
 use Rattle.book_write.specs.Writing.{writeOf, writtenTold}
-use Rattle.host.specs.Told.{Filled, filled}
+use Rattle.host.specs.Told.{Filled, roomTold}
 
 -- the offset and the length of each body
 abbrev pub places : ℕ → ℕ → ℕ → ℕ → ℕ → ℕ → Parts
@@ -15,8 +13,5 @@ places p pn w wn v vn = record { program = place p pn; wiring = place w wn; leve
 unfoldable pub hostReadOf : List ℕ → Parts → Found
 hostReadOf file old = readingTold (readOf file) old
 
-unfoldable pub bookTold : Outcome Written → ℕ → Filled
-bookTold a count = filled (writtenTold (a .answer) count) (a .room)
-
 unfoldable pub hostWriteOf : List ℕ → List ℕ → List ℕ → List ℕ → ℕ → Filled
-hostWriteOf program wiring level room count = bookTold (writeOf program wiring level room) count
+hostWriteOf program wiring level room count = roomTold writtenTold (writeOf program wiring level room) count

@@ -12,10 +12,7 @@ use Rattle.writers.specs.declared.Listed.the-variants.{Refused}
 use Rattle.writers.specs.List.{writersOf}
 use Rattle.writers.specs.Answer.{filledOf, listedTold}
 use Rattle.wire.specs.Words.{wordsOf, pairsOf}
-use Rattle.host.specs.Told.{Filled, filled}
-
-unfoldable pub listTold : Outcome Listed → ℕ → Filled
-listTold a count = filled (listedTold (a .answer) count) (a .room)
+use Rattle.host.specs.Told.{Filled, roomTold}
 
 -- 8; else the list, two bytes for each address, or 7 with the bytes needed
 unfoldable pub askedOf : List ℕ → ℕ → List ℕ → Outcome Listed
@@ -28,5 +25,5 @@ askedOf p cell room =
 unfoldable pub hostListOf : List ℕ → ℕ → List ℕ → ℕ → Filled
 hostListOf body cell room count =
     pick (eqb (length body) 8192)
-    (listTold (askedOf (wordsOf body 4096) cell room) count)
-    (listTold (outcome (Refused (ProgramLength (length body))) room) count)
+    (roomTold listedTold (askedOf (wordsOf body 4096) cell room) count)
+    (roomTold listedTold (outcome (Refused (ProgramLength (length body))) room) count)

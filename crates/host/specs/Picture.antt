@@ -5,18 +5,13 @@ use lib.Dec.{eqb}
 use lib.ListN.{length}
 use Rattle.lent.specs.Lent.{pick}
 use Rattle.sh_state.specs.State.{state}
-use Rattle.lent.specs.Outcome.{Outcome}
-use Rattle.picture.specs.declared.Drawn.{Drawn}
 use Rattle.picture.specs.Picture.{pictureOf, drawnTold}
 use Rattle.wire.specs.Record.{recordOf}
 use Rattle.refusal.specs.Told.{counted}
-use Rattle.host.specs.Told.{Filled, filled, shortTold}
-
-unfoldable pub pictureTold : Outcome Drawn → ℕ → Filled
-pictureTold a count = filled (drawnTold (a .answer) count) (a .room)
+use Rattle.host.specs.Told.{Filled, filled, roomTold, shortTold}
 
 unfoldable pub hostPictureOf : List ℕ → List ℕ → List ℕ → List ℕ → ℕ → Filled
 hostPictureOf l b wiring room count =
     pick (eqb (length b) 37)
-    (pictureTold (pictureOf (state (recordOf b) l) wiring room) count)
+    (roomTold drawnTold (pictureOf (state (recordOf b) l) wiring room) count)
     (filled (counted (shortTold l) count) room)

@@ -1,6 +1,7 @@
 -- What C is told besides: a record of another length, and what a lent room then holds.
 use mathlib.Core.List.{List}
 use Prim.Native.Nat.{ℕ}
+use Rattle.lent.specs.Outcome.{Outcome}
 use Rattle.refusal.specs.declared.Refusal.{Refusal}
 use Rattle.refusal.specs.Told.{Said, Counted}
 use Rattle.sh_rules.specs.declared.judge.Judged.{Judged}
@@ -17,3 +18,7 @@ pub record Filled : Type 0 where
 
 abbrev pub filled : Counted → List ℕ → Filled
 filled c o = record { counted = c; room = o }
+
+-- an answer that tells a count, and the room that it leaves
+unfoldable pub roomTold : {A : Type 0} → (A → ℕ → Counted) → Outcome A → ℕ → Filled
+roomTold told a count = filled (told (a .answer) count) (a .room)

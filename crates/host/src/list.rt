@@ -7,14 +7,14 @@ ghost use mathlib.Core.Path.{_≡_};
 ghost use Prim.Native.Nat.{_≤_};
 ghost use Rattle.wire.specs.Words.{wordsOf, pairsOf};
 ghost use Rattle.refusal.specs.Told.{said, counted};
-ghost use Rattle.writers.specs.Answer.{filledOf};
-ghost use Rattle.host.specs.Told.{filled};
-ghost use Rattle.host.specs.List.{listTold, askedOf, hostListOf};
+ghost use Rattle.writers.specs.Answer.{filledOf, listedTold};
+ghost use Rattle.host.specs.Told.{filled, roomTold};
+ghost use Rattle.host.specs.List.{askedOf, hostListOf};
 
 // The first n addresses as bytes, in the room.
 fn fill(ws: &[u16], n: usize, room: &mut [u8], count: &mut u64, value: &mut u64) -> u32
     requires { ⌜ n ≤ 4096 ⌝ }
-    ensures { λ r. ⌜ filled (counted (said r (now (value .exit))) (now (count .exit))) (now (room .exit)) ≡ listTold (filledOf (pairsOf (now (ws .entry)) n) (now (room .entry))) (now (count .entry)) ⌝ }
+    ensures { λ r. ⌜ filled (counted (said r (now (value .exit))) (now (count .exit))) (now (room .exit)) ≡ roomTold listedTold (filledOf (pairsOf (now (ws .entry)) n) (now (room .entry))) (now (count .entry)) ⌝ }
 {
     let needed = n * 2;
     if room.len() < needed {
@@ -26,7 +26,7 @@ fn fill(ws: &[u16], n: usize, room: &mut [u8], count: &mut u64, value: &mut u64)
 
 // The list of a program's words.
 fn asked(program: &[u8], cell: u32, room: &mut [u8], count: &mut u64, value: &mut u64) -> u32
-    ensures { λ r. ⌜ filled (counted (said r (now (value .exit))) (now (count .exit))) (now (room .exit)) ≡ listTold (askedOf (wordsOf (now (program .entry)) 4096) cell (now (room .entry))) (now (count .entry)) ⌝ }
+    ensures { λ r. ⌜ filled (counted (said r (now (value .exit))) (now (count .exit))) (now (room .exit)) ≡ roomTold listedTold (askedOf (wordsOf (now (program .entry)) 4096) cell (now (room .entry))) (now (count .entry)) ⌝ }
 {
     let w = words::words_of(program);
     let mut found = [0u16; 4096];

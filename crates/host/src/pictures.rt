@@ -7,8 +7,8 @@ ghost use Rattle.picture.specs.Picture.{pictureOf, drawnTold};
 ghost use Rattle.sh_state.specs.State.{state};
 ghost use Rattle.wire.specs.Record.{recordOf};
 ghost use Rattle.refusal.specs.Told.{said, counted};
-ghost use Rattle.host.specs.Told.{filled};
-ghost use Rattle.host.specs.Picture.{pictureTold, hostPictureOf};
+ghost use Rattle.host.specs.Told.{filled, roomTold};
+ghost use Rattle.host.specs.Picture.{hostPictureOf};
 
 fn tell(a: Drawn, count: &mut u64, value: &mut u64) -> u32
     ensures { λ r. ⌜ counted (said r (now (value .exit))) (now (count .exit)) ≡ drawnTold a (now (count .entry)) ⌝ }
@@ -27,7 +27,7 @@ fn drawn(
     count: &mut u64,
     value: &mut u64,
 ) -> u32
-    ensures { λ r. ⌜ filled (counted (said r (now (value .exit))) (now (count .exit))) (now (room .exit)) ≡ pictureTold (pictureOf (state (recordOf (now (bytes .entry))) (now (memory .entry))) (now (wiring .entry)) (now (room .entry))) (now (count .entry)) ⌝ }
+    ensures { λ r. ⌜ filled (counted (said r (now (value .exit))) (now (count .exit))) (now (room .exit)) ≡ roomTold drawnTold (pictureOf (state (recordOf (now (bytes .entry))) (now (memory .entry))) (now (wiring .entry)) (now (room .entry))) (now (count .entry)) ⌝ }
 {
     let m = record::record_of(bytes);
     let a = picture::picture(m, memory, wiring, room);

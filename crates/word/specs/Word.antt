@@ -119,12 +119,12 @@ wordOf Nop = 0xFFFF  -- 11111 1111 111 1111
 unfoldable pub encodeOf : Instruction → Encoded
 encodeOf i = pick (inRange i) (Encoded.Word (wordOf i)) (Encoded.Refused Field)
 
--- what is told of a word that is read
+-- what is told of a word that is read; the instruction is in the answer
 unfoldable pub decodedTold : Decoded → Said
 decodedTold (Decoded.Listed i) = doneTold
 decodedTold (Decoded.Refused why) = refusedTold why
 
--- what is told of an instruction that is written
+-- what is told of an instruction that is written; its word is in the answer
 unfoldable pub encodedTold : Encoded → Said
 encodedTold (Encoded.Word w) = doneTold
 encodedTold (Encoded.Refused why) = refusedTold why

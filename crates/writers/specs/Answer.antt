@@ -12,7 +12,7 @@ use Rattle.writers.specs.declared.Listed.the-variants.{Count, Refused}
 use Rattle.writers.specs.List.{writersOf}
 use Rattle.refusal.specs.Told.{Counted, counted, doneTold, refusedTold}
 
--- 7, with the entries needed; else the list in the room
+-- 7, with the room needed; else the list in the room: in entries here, in bytes at the boundary to C
 unfoldable pub filledOf : List ℕ → List ℕ → Outcome Listed
 filledOf l o =
     pick (ltb (length o) (length l)) (outcome (Refused (Room (length l))) o) (outcome (Count (length l)) (over l o))
@@ -24,7 +24,7 @@ listOf p c o =
     (pick (askableOf c) (filledOf (writersOf p c) o) (outcome (Refused (NotAskable c)) o))
     (outcome (Refused (ProgramLength (length p))) o)
 
--- what is told of a list: how many entries it has, beside
+-- what is told of a list: its length, beside
 unfoldable pub listedTold : Listed → ℕ → Counted
 listedTold (Count n) count = counted doneTold n
 listedTold (Refused why) count = counted (refusedTold why) count

@@ -1,5 +1,5 @@
 -- `host::books::galhoveia_book_read`: two calls, as the definition has them.
-use Rattle.host.proofs.Laws.{read-told}
+use Rattle.host.proofs.Laws.{book-read-told}
 use borrow.Author.Needs.{needs}
 use Rattle.host.proofs.books.galhoveia_book_read.Statement.{statement}
 use Rattle.host.proofs.books.galhoveia_book_read.Tie as tie
@@ -11,7 +11,7 @@ tell-read-requires : tie.Need-tell-read-requires
 tell-read-requires c κs = search needs
 
 returns : tie.Need-returns
-returns c = read-told _ _ (c .before .before .before .before .before .before .before .before .read .ensures) (c .tell-read .ensures)
+returns c = book-read-told _ _ (c .before .before .before .before .before .before .before .before .read .ensures) (c .tell-read .ensures)
 
 pub galhoveia-book-read-spec : {M : Type 1} → statement M
 galhoveia-book-read-spec = tie.close (tie.spec read-requires tell-read-requires returns)
