@@ -1,15 +1,17 @@
 # What the tests know of an edit file and of a check's log; read by tests/wrong.sh, refused.sh, statements.sh and sizes.sh.
 # A file under wrong/CRATE or crates/CRATE/must-fail holds one wrong answer, named as the file, or several, each behind a line
-# 'wrong: NAME FUNCTION' with the function whose proof must miss a fact.
+# 'wrong: NAME PLACE [LAW]': the function, or the file of laws, whose proof must miss a fact, and which one where two wrong answers meet.
 
 # edits_of CRATE: its edit files
 edits_of() {
     find "wrong/$1" "crates/$1/must-fail" -maxdepth 1 -name '*.edit' 2>/dev/null | LC_ALL=C sort
 }
 
-# answers_in EDIT: a line 'NAME FUNCTION' for each wrong answer; the function is - where the file holds one
+# answers_in EDIT: a line 'NAME PLACE LAW' for each wrong answer, with - for what is not said
 answers_in() {
-    awk -v name="$(basename "$1" .edit)" '/^wrong: / { print $2, $3; several = 1 } END { if (!several) print name, "-" }' "$1"
+    awk -v name="$(basename "$1" .edit)" '
+        /^wrong: / { print $2, $3, (NF > 3 ? $4 : "-"); several = 1 }
+        END { if (!several) print name, "-", "-" }' "$1"
 }
 
 # apply EDIT NAME DIR: one wrong answer in a copy of its crate; each 'old:' text stands once in its file, and the 'new:' text takes its
@@ -42,13 +44,14 @@ apply() {
         }' "$1"
 }
 
-# facts LOG CRATE FUNCTION: the facts that a check missed, in one function's proof, or for - in any. What only follows from another error
-# is none, and neither is a proof whose needs, or the fields of what a place knows, are no longer those of the code: that is its shape.
-# The last term of a proof, F-spec, only puts the others together.
+# facts LOG CRATE PLACE LAW: the facts that a check missed there, or for - anywhere. What only follows from another error is none, and
+# neither is a proof whose needs, or the fields of what a place knows, are no longer those of the code: that is its shape. The last term
+# of a function's proof, F-spec, only puts the others together.
 facts() {
     grep -E '/proofs/[^ ]*: error: |^fn .*: no proof' "$1" |
         grep -vE 'was not admitted|has no `Need-|has no field|: error: `[^ ]*-spec`' |
-        if [ "$3" = - ]; then cat; else grep -F -e "/proofs/${3//:://}/Proof.antt:" -e "fn $2::$3: no proof"; fi
+        if [ "$3" = - ]; then cat; else grep -F -e "/proofs/${3//:://}/Proof.antt:" -e "/proofs/$3.antt:" -e "fn $2::$3: no proof"; fi |
+        if [ "$4" = - ]; then cat; else grep -F ": error: \`$4\`:"; fi
 }
 
 # What a test counts, and how it ends: in a last line 'N passed, M failed'.

@@ -8,11 +8,11 @@ for edit in crates/*/must-fail/*.edit; do
     crate=${edit#crates/}
     crate=${crate%%/*}
     log=target/must-fail/$crate/$(basename "$edit" .edit)/.log
-    while read -r name function; do
+    while read -r name place law; do
         if [ ! -f "$log" ]; then
             fails "$crate/$name was not tried"
-        elif [ -z "$(facts "$log" "$crate" "$function")" ]; then
-            fails "$crate/$name breaks no fact (of $function), or only the shape of the proof ($log)"
+        elif [ -z "$(facts "$log" "$crate" "$place" "$law")" ]; then
+            fails "$crate/$name breaks no fact ($place $law), or only the shape of the proof ($log)"
         else
             holds
         fi

@@ -30,8 +30,8 @@ for crate in crates/*/; do
             head && /\{[ \t]*$/ { print fn, has; head = 0 }' "$file")
     done
     for edit in $(edits_of "$name"); do
-        # wrong answers that are tried together are of one function each
-        if [ -z "$(answers_in "$edit" | cut -d' ' -f2 | sort | uniq -d)" ]; then holds; else fails "$edit has two wrong answers of one function"; fi
+        # wrong answers that are tried together are told apart by where they are refused
+        if [ -z "$(answers_in "$edit" | cut -d' ' -f2- | sort | uniq -d)" ]; then holds; else fails "$edit has two wrong answers of one place"; fi
     done
     named=$(printf '%s\n' "$section" | sed -n 's/^| `\([a-z0-9_]*\)` | `[A-Za-z0-9_:]*` |.*/\1/p' | sort)
     edits=$(for edit in $(edits_of "$name"); do answers_in "$edit"; done | cut -d' ' -f1 | sort)

@@ -21,7 +21,7 @@ copy() {
     done
 }
 
-# try CRATE ROOM EDIT NAME FUNCTION
+# try CRATE ROOM EDIT NAME PLACE LAW
 try() {
     local log=$2/logs/$4 why
     copy "$1" "$2"
@@ -34,7 +34,7 @@ try() {
         echo "FAILED: $1/$4 is accepted"
     elif ! grep -q '^logic=not-proved' "$log"; then
         echo "FAILED: $1/$4 does not reach the checker ($log)"
-    elif [ -z "$(facts "$log" "$1" "$5")" ]; then
+    elif [ -z "$(facts "$log" "$1" "$5" "$6")" ]; then
         echo "FAILED: $1/$4 breaks only the shape of the proof ($log)"
     else
         echo "ok: $1/$4"
@@ -44,7 +44,7 @@ try() {
 # A repository beside this one, with a copy of the crate and links to all else: the checker keeps there what an edit leaves as it was, so
 # that each edit costs seconds.
 try_crate() {
-    local room=target/wrong/$1 other edit name function
+    local room=target/wrong/$1 other edit name place law
     rm -rf "$room"
     mkdir -p "$room/crates" "$room/target/log" "$room/logs"
     ln -s "$top/target/rlib" "$top/target/stamp" "$room/target/"
@@ -59,7 +59,7 @@ try_crate() {
         return
     fi
     for edit in $(edits_of "$1"); do
-        while read -r name function; do try "$1" "$room" "$edit" "$name" "$function"; done < <(answers_in "$edit")
+        while read -r name place law; do try "$1" "$room" "$edit" "$name" "$place" "$law"; done < <(answers_in "$edit")
     done
 }
 
