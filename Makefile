@@ -50,8 +50,9 @@ SECOND = second/second.c second/search.c second/instruction.c
 DESK = $(wildcard desk/*.c)
 COMPARE = $(wildcard tests/compare*.c) tests/support.c tests/counting.c tests/machines.c tests/forms.c
 TEXT = tests/text.c desk/assembler.c desk/files.c desk/listing.c desk/texts.c
+BENCH = $(wildcard bench/*.c) desk/files.c desk/texts.c
 TRIALS = tests/trials.c tests/counting.c tests/machines.c tests/forms.c
-HEADERS = $(wildcard desk/*.h tests/*.h second/*.h)
+HEADERS = $(wildcard bench/*.h desk/*.h tests/*.h second/*.h)
 
 all: desk
 
@@ -105,7 +106,7 @@ build/plain/compare: $(patsubst %.c,build/plain/objects/%.o,$(COMPARE) $(SECOND)
 	$(LINK)
 
 # Linked each time, so that it has the library that was asked for.
-build/bench/measure: $(patsubst %.c,build/bench/objects/%.o,bench/bench.c $(SECOND)) $(BENCH_LIB)
+build/bench/measure: $(patsubst %.c,build/bench/objects/%.o,$(BENCH) $(SECOND)) $(BENCH_LIB)
 	$(CC) -o $@ $^
 
 build/plain/header: build/plain/objects/tests/header.o $(LIB)
