@@ -1,6 +1,6 @@
 #!/usr/bin/env bash
 # Every public function of every library crate has an `ensures`, a row in docs/STATEMENTS.md and at least two wrong answers there; every
-# wrong answer there has an edit, in wrong/ or in its crate's must-fail, and every edit is named there.
+# row is of such a function; every wrong answer there has an edit, in wrong/ or in its crate's must-fail, and every edit is named there.
 # Its last line is 'N passed, M failed'.
 set -u
 cd "$(dirname "$0")/.." || exit 2
@@ -28,6 +28,9 @@ for crate in crates/*/; do
             match($0, /^[ \t]*pub (extern "C" )?fn [a-z_0-9]+/) { fn = substr($0, RSTART, RLENGTH); sub(/.* /, "", fn); has = "no"; head = 1 }
             head && /ensures/ { has = "yes" }
             head && /\{[ \t]*$/ { print fn, has; head = 0 }' "$file")
+    done
+    for row in $(printf '%s\n' "$section" | sed -n 's/^| `\([A-Za-z0-9_:]*\)` | [^`].*/\1/p'); do
+        if grep -qE "^[ \t]*pub (extern \"C\" )?fn ${row##*::}\(" "$crate"src/*.rt; then holds; else fails "$name: $row has a row in docs/STATEMENTS.md and is no public function"; fi
     done
     for edit in $(edits_of "$name"); do
         # wrong answers that are tried together are told apart by where they are refused

@@ -1,9 +1,10 @@
 -- The call run: 1 to 5 before anything moves, 5 over the whole script; else the run (01, "A run stops ..").
 use Prim.Native.Nat.{ℕ}
-use mathlib.Core.List.{List}
+use mathlib.Core.Bool.{Bool, true}
+use mathlib.Core.List.{List, [], _∷_}
 use lib.Dec.{eqb}
 use lib.ListN.{length}
-use Rattle.lent.specs.Lent.{pick, failsFrom}
+use Rattle.lent.specs.Lent.{pick, both, failsFrom}
 use Rattle.refusal.specs.declared.Refusal.{Refusal}
 use Rattle.refusal.specs.declared.Refusal.the-variants.{ProgramLength, UnknownEvent, UnlistedWord}
 use Rattle.refusal.specs.Refusal.{numberOf}
@@ -42,6 +43,11 @@ runToldOf r = runAnswered (reasonOf (r .why) (r .after .machine)) (r .events) (r
 -- the first place, from i on, of a byte that is no event
 abbrev pub unknownFrom : List ℕ → ℕ → Found
 unknownFrom script i = failsFrom (λ _ e. knownOf e) script i
+
+-- whether every byte is an event
+unfoldable pub allKnownOf : List ℕ → Bool
+allKnownOf [] = true
+allKnownOf (e ∷ script) = both (knownOf e) (allKnownOf script)
 
 -- 5: unknown event
 unfoldable pub runFoundOf : List ℕ → State → List ℕ → ℕ → Found → RunAnswered

@@ -9,7 +9,7 @@ ghost use mathlib.Core.Path.{_≡_};
 ghost use Rattle.sh_rules.specs.Judge.{stateJudged};
 ghost use Rattle.sh_state.specs.State.{state};
 ghost use Rattle.sh_run.specs.Run.{runOf};
-ghost use Rattle.call_run.specs.Run.{runAnswered, reasonOf, runToldOf, unknownFrom, runFoundOf, runJudgedOf, runCallOf};
+ghost use Rattle.call_run.specs.Run.{runAnswered, reasonOf, runToldOf, unknownFrom, allKnownOf, runFoundOf, runJudgedOf, runCallOf};
 
 // Why it stopped, or the refusal.
 pub enum Reason {
@@ -48,7 +48,20 @@ fn told(program: &[u16], m: Machine, memory: &mut [u8], script: &[u8], target: u
     }
 }
 
-// The first place of a byte that is no event.
+// Whether every byte is an event: a pass with no way out, which the compiler does many bytes at a time.
+fn all_known(script: &[u8]) -> bool
+    ensures { λ r. ⌜ r ≡ allKnownOf (now (script .entry)) ⌝ }
+{
+    let mut ok = true;
+    let mut i: usize = 0;
+    while i < script.len() {
+        ok = lent::both(sh_known::known(script[i]), ok);
+        i += 1;
+    }
+    ok
+}
+
+// The first place of a byte that is no event, looked for one by one.
 fn first_unknown(script: &[u8]) -> Found
     ensures { λ r. ⌜ r ≡ unknownFrom (now (script .entry)) 0 ⌝ }
 {
@@ -60,6 +73,15 @@ fn first_unknown(script: &[u8]) -> Found
         i += 1;
     }
     Found::Nothing
+}
+
+fn unknown(script: &[u8]) -> Found
+    ensures { λ r. ⌜ r ≡ unknownFrom (now (script .entry)) 0 ⌝ }
+{
+    if all_known(script) {
+        return Found::Nothing;
+    }
+    first_unknown(script)
 }
 
 fn run_found(
@@ -91,7 +113,7 @@ fn run_known(
 ) -> RunAnswer
     ensures { λ r. ⌜ runAnswered (r .reason) (r .events) (state (r .machine) (now (memory .exit))) ≡ runFoundOf (now (program .entry)) (state m (now (memory .entry))) (now (script .entry)) target (unknownFrom (now (script .entry)) 0) ⌝ }
 {
-    run_found(program, m, memory, script, target, first_unknown(script))
+    run_found(program, m, memory, script, target, unknown(script))
 }
 
 fn run_judged(

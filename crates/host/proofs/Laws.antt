@@ -14,14 +14,15 @@ use lib.ListN.{length}
 use Rattle.lent.specs.Lent.{pastedOf}
 use Rattle.answer.specs.Answer.{Answered, outcomeTold}
 use Rattle.call_step.specs.Step.{stepOf}
+use Rattle.call_step.proofs.Words.{step-same}
 use Rattle.call_run.specs.Run.{RunAnswered, runCallOf, Stopped, stopped, refusedBy, reasonTold}
 use Rattle.lent.specs.Outcome.{Outcome}
 use Rattle.book.specs.Book.{readOf, Found, found, readingTold}
 use Rattle.book_write.specs.Writing.{writeOf, writtenTold}
 use Rattle.picture.specs.Picture.{pictureOf, drawnTold}
 use Rattle.wire.specs.Record.{recordOf, bytesOf}
-use Rattle.wire.specs.Words.{wordsOf}
-use Rattle.wire.proofs.Laws.{record-whole}
+use Rattle.wire.specs.Words.{wordsOf, wordsAtOf}
+use Rattle.wire.proofs.Laws.{record-whole, words-at-length, words-at-first, words-at-second}
 use Rattle.sh_rules.specs.declared.judge.Judged.{Judged}
 use Rattle.sh_rules.specs.Judge.{judgedTold}
 use Rattle.answer.specs.declared.Outcome as answers
@@ -96,10 +97,19 @@ pub answer-told : (b : List ℕ) (x a : Answered) (k : List ℕ) (t : Said) →
 unfolding stepTold
 answer-told b x a k t e n s g = rw (← e, s, record-whole (a .after .machine) b n, g)
 
+-- the two words that an event can read are as good as the program
+two-words : (body l : List ℕ) (event : ℕ) (m : Machine) → stepOf (wordsAtOf body (m .pc) (m .address)) (state m l) event ≡ stepOf (wordsOf body 4096) (state m l) event
+two-words body l event m =
+    step-same (wordsAtOf body (m .pc) (m .address)) (wordsOf body 4096) (state m l) (words-at-second body (m .pc) (m .address)) (words-at-first body (m .pc) (m .address)) event (words-at-length body (m .pc) (m .address))
+
 pub step-told : (body l b : List ℕ) (event : ℕ) (w : List ℕ) (m : Machine) (a : Answered) (k : List ℕ) (t : Said) →
-    w ≡ wordsOf body 4096 → m ≡ recordOf b → a ≡ stepOf w (state m l) event → length b ≡ 37 → k ≡ pastedOf b 0 (bytesOf (a .after .machine)) → t ≡ outcomeTold (a .outcome) →
+    m ≡ recordOf b → w ≡ wordsAtOf body (m .pc) (m .address) → a ≡ stepOf w (state m l) event → length b ≡ 37 → k ≡ pastedOf b 0 (bytesOf (a .after .machine)) → t ≡ outcomeTold (a .outcome) →
     stepped t (a .after .memory) k ≡ stepTold (stepOf (wordsOf body 4096) (state (recordOf b) l) event)
-step-told body l b event w m a k t p q r n s g = answer-told b _ a k t (rw (← p, ← q) r) n s g
+step-told body l b event w m a k t q p r n s g =
+    answer-told b _ a k t
+    (r
+    ∙ (ap (λ (v : List ℕ). stepOf v (state m l) event) p
+    ∙ (two-words body l event m ∙ ap (λ (u : Machine). stepOf (wordsOf body 4096) (state u l) event) q))) n s g
 
 pub run-told : (body l b script : List ℕ) (stop reason events : ℕ) (w : List ℕ) (m : Machine) (a : RunAnswered) (k : List ℕ) (n : Stopped) →
     w ≡ wordsOf body 4096 → m ≡ recordOf b → a ≡ runCallOf w (state m l) script stop → length b ≡ 37 → k ≡ pastedOf b 0 (bytesOf (a .after .machine)) → n ≡ reasonTold (a .reason) (a .events) reason events →

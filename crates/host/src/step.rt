@@ -16,8 +16,8 @@ fn done(program: &[u8], memory: &mut [u8], bytes: &mut [u8], event: u8, value: &
     requires { ⌜ length (now bytes) ≡ 37 ⌝ }
     ensures { λ r. ⌜ stepped (said r (now (value .exit))) (now (memory .exit)) (now (bytes .exit)) ≡ stepTold (stepOf (wordsOf (now (program .entry)) 4096) (state (recordOf (now (bytes .entry))) (now (memory .entry))) event) ⌝ }
 {
-    let w = words::words_of(program);
     let m = record::record_of(bytes);
+    let w = words::words_at(program, m.pc, m.address);
     let a = call_step::step::step(&w, m, memory, event);
     let n = a.machine;
     let o = a.outcome;

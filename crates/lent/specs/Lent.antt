@@ -1,7 +1,8 @@
 -- What lent bytes and words hold and are left with, for every index: what stands past the end reads as 0, and a store there does nothing.
-use Prim.Native.Nat.{ℕ, _+_, _*_, _/_, _%_}
+use Prim.Native.Nat.{ℕ, zero, suc, _+_, _*_, _/_, _%_}
 use mathlib.Core.Bool.{Bool, true, false}
 use mathlib.Core.List.{List, [], _∷_, _++_}
+use lib.Bits.{bitOr}
 use lib.Dec.{ltb}
 use lib.ListN.{length, getD, set, take, drop}
 use Rattle.lent.specs.declared.Found.{Found}
@@ -35,6 +36,11 @@ pastedOf l i from = pick (ltb (length l) (i + length from)) l (take i l ++ from 
 -- a list at the front of a room, and then what stood beyond it ("Bytes beyond what is written stay")
 unfoldable pub over : List ℕ → List ℕ → List ℕ
 over l o = l ++ drop (length l) o
+
+-- the bits of n bytes from a on, taken together
+unfoldable pub joinedOf : List ℕ → ℕ → ℕ → ℕ
+joinedOf l a zero = 0
+joinedOf l a (suc n) = bitOr (joinedOf l a n) (at l (a + n))
 
 -- each element by its place, from place i on
 unfoldable pub mapFrom : (ℕ → ℕ → ℕ) → List ℕ → ℕ → List ℕ

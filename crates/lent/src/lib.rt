@@ -1,7 +1,9 @@
-// Bytes and words that a caller lends, read and written by total functions: no index is ever asked to be in range.
+// Bytes and words that a caller lends, read and written by total functions: no index is asked to be in range, but for those of `joined`,
+// which is only quick without a test for each byte.
+ghost use Prim.Native.Nat.{_-_, _≤_};
 ghost use mathlib.Core.Path.{_≡_};
 ghost use lib.ListN.{length, replicate, set};
-ghost use Rattle.lent.specs.Lent.{at, both, pairAtOf, pairSetOf, pastedOf};
+ghost use Rattle.lent.specs.Lent.{at, both, pairAtOf, pairSetOf, pastedOf, joinedOf};
 
 // The place of what was looked for, where there is one.
 pub enum Found {
@@ -95,4 +97,18 @@ pub fn clear(bytes: &mut [u8])
         bytes[i] = 0;
         i += 1;
     }
+}
+
+// The bits of the bytes from a place on, below another, taken together.
+pub fn joined(bytes: &[u8], a: usize, e: usize) -> u8
+    requires { ⌜ (a ≤ e) × (e ≤ length (now bytes)) ⌝ }
+    ensures { λ r. ⌜ r ≡ joinedOf (now (bytes .entry)) a (e - a) ⌝ }
+{
+    let mut bits: u8 = 0;
+    let mut i = a;
+    while i < e {
+        bits = bits | bytes[i];
+        i += 1;
+    }
+    bits
 }

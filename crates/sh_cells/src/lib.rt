@@ -5,9 +5,9 @@ use sh_state::machine::Machine;
 ghost use mathlib.Core.Path.{_≡_};
 ghost use Rattle.lent.specs.Lent.{at};
 ghost use Rattle.sh_state.specs.State.{state};
-ghost use Rattle.sh_cells.specs.Cells.{pointedOf, targetOf, portOf, plainIn, plainOf, valueOf, restartedOf, seenOf, readOf};
+ghost use Rattle.sh_cells.specs.Cells.{pointedOf, targetOf, portOf, plainIn, plainOf, valueOf, restartedOf, seenOf};
 
-// A cell's value, and the record after it was read: a read can move the record.
+// A cell's value, and the record after it was read, as the definitions put them together.
 pub struct Reading {
     pub value: u8,
     pub machine: Machine,
@@ -33,13 +33,14 @@ pub fn target(memory: &[u8], a: u16) -> u16
 }
 
 // A port's nibble: the pin where the control bit is 0, the latch where it is 1.
-fn port(pin: u8, latch: u8, control: u8) -> u8
+pub fn port(pin: u8, latch: u8, control: u8) -> u8
     ensures { λ r. ⌜ r ≡ portOf pin latch control ⌝ }
 {
     (pin & (255 - control)) | (latch & control)
 }
 
-fn port_cell(pin: u8, memory: &[u8], latch: u16, control: u16) -> u8
+// The nibble of the port with this pin nibble, latch cell and control cell.
+pub fn port_cell(pin: u8, memory: &[u8], latch: u16, control: u16) -> u8
     ensures { λ r. ⌜ r ≡ portOf pin (at (now (memory .entry)) latch) (at (now (memory .entry)) control) ⌝ }
 {
     port(pin, map::cell(memory, latch), map::cell(memory, control))
@@ -65,7 +66,7 @@ fn plain(memory: &[u8], a: u16) -> u8
 }
 
 // What a cell reads as.
-fn value(m: Machine, memory: &[u8], a: u16) -> u8
+pub fn value(m: Machine, memory: &[u8], a: u16) -> u8
     ensures { λ r. ⌜ r ≡ valueOf (state m (now (memory .entry))) a ⌝ }
 {
     if a == 0x04 {
@@ -105,21 +106,11 @@ fn restarted_as_held(m: Machine, memory: &[u8]) -> Machine
 }
 
 // What reading a cell does to the record: $01E restarts the watchdog.
-fn seen(m: Machine, memory: &[u8], a: u16) -> Machine
+pub fn seen(m: Machine, memory: &[u8], a: u16) -> Machine
     ensures { λ r. ⌜ r ≡ seenOf (state m (now (memory .entry))) a ⌝ }
 {
     if a == 0x1E {
         return restarted_as_held(m, memory);
     }
     m
-}
-
-// A read: the value, and the record after it.
-pub fn read(m: Machine, memory: &[u8], a: u16) -> Reading
-    ensures { λ r. ⌜ r ≡ readOf (state m (now (memory .entry))) a ⌝ }
-{
-    Reading {
-        value: value(m, memory, a),
-        machine: seen(m, memory, a),
-    }
 }

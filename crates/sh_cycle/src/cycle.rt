@@ -8,11 +8,22 @@ use word::Instruction;
 ghost use mathlib.Core.Path.{_≡_};
 ghost use lib.ListN.{set};
 ghost use Rattle.sh_state.specs.State.{state};
-ghost use Rattle.sh_cycle.specs.Cycle.{happened, readTakenOf, wokenOf, wordInOf, landedOf, clockOf, finishedOf, executedOf, instructedOf, interruptCycleOf, awakeCycleOf, asleepCycleOf, cycleDueOf, cycleOf};
-ghost use Prim.Native.Nat.{_/_, _%_};
+ghost use Rattle.sh_cycle.specs.Cycle.{happened, readTakenOf, wokenOf, wordInOf, clockOf, instructedOf, interruptCycleOf, awakeCycleOf, asleepCycleOf, cycleDueOf, cycleOf};
+ghost use Rattle.sh_timers.specs.Ticked.{timeSetOf};
+ghost use Rattle.sh_cycle.specs.Read.{landedBy, finishedBy, endedBy};
+ghost use Rattle.sh_execute.specs.Execute.{executeOf};
+ghost use Prim.Native.Nat.{ℕ, _/_, _%_};
+ghost use mathlib.Core.List.{List};
 ghost use Rattle.lent.specs.Lent.{at};
 ghost use Rattle.word.specs.Word.{decodeOf};
 ghost use mathlib.Core.Bool.{false};
+
+// What a cycle did before (d) and (e), and whether it ends in them.
+pub struct Acted {
+    pub stuck: bool,
+    pub ends: bool,
+    pub machine: Machine,
+}
 
 // An event's outcome: stuck before an unlisted word with nothing changed, or done.
 pub struct Outcome {
@@ -68,117 +79,132 @@ fn word_from(program: &[u16], a: u16, memory: &mut [u8])
 }
 
 // (d)
-fn landed(program: &[u16], start: Machine, memory: &mut [u8])
-    ensures { λ r. ⌜ now (memory .exit) ≡ landedOf (now (program .entry)) start (now (memory .entry)) ⌝ }
+fn landed(program: &[u16], pending: u8, address: u16, memory: &mut [u8])
+    ensures { λ r. ⌜ now (memory .exit) ≡ landedBy (now (program .entry)) pending address (now (memory .entry)) ⌝ }
 {
-    if start.pending == 1 {
-        word_from(program, start.address, memory);
+    if pending == 1 {
+        word_from(program, address, memory);
     }
+}
+
+fn time_set(m: Machine, prescaler: u16, counter: u8) -> Machine
+    ensures { λ r. ⌜ r ≡ timeSetOf m prescaler counter ⌝ }
+{
+    let mut n = m;
+    n.prescaler = prescaler;
+    n.counter = counter;
+    n
 }
 
 // (e)
 fn clock(m: Machine, memory: &mut [u8]) -> Machine
     ensures { λ r. ⌜ state r (now (memory .exit)) ≡ clockOf (state m (now (memory .entry))) ⌝ }
 {
-    let v = timer0::clocked(m, map::cell(memory, 0x02));
-    request::requested(memory, v.requests);
-    v.machine
+    let t = timer0::ticked(m.prescaler, m.counter, m.load, map::cell(memory, 0x02));
+    request::requested(memory, t.requests);
+    time_set(m, t.prescaler, t.counter)
 }
 
-// (d) and (e)
-fn finished(program: &[u16], start: Machine, m: Machine, memory: &mut [u8]) -> Machine
-    ensures { λ r. ⌜ state r (now (memory .exit)) ≡ finishedOf (now (program .entry)) start (state m (now (memory .entry))) ⌝ }
+// (d) and (e): the pending read of before, and the machine after
+fn finished(program: &[u16], pending: u8, address: u16, m: Machine, memory: &mut [u8]) -> Machine
+    ensures { λ r. ⌜ state r (now (memory .exit)) ≡ finishedBy (now (program .entry)) pending address (state m (now (memory .entry))) ⌝ }
 {
-    landed(program, start, memory);
+    landed(program, pending, address, memory);
     clock(m, memory)
 }
 
-// (c), (d) and (e)
-fn executed(program: &[u16], m: Machine, memory: &mut [u8], i: Instruction) -> Machine
-    ensures { λ r. ⌜ state r (now (memory .exit)) ≡ executedOf (now (program .entry)) (state m (now (memory .entry))) i ⌝ }
+// (d) and (e) after what the cycle did, where it ends in them
+fn ended(program: &[u16], pending: u8, address: u16, a: Acted, memory: &mut [u8]) -> Outcome
+    ensures { λ r. ⌜ happened (r .stuck) (state (r .machine) (now (memory .exit))) ≡ endedBy (now (program .entry)) pending address (a .ends) (a .stuck) (state (a .machine) (now (memory .entry))) ⌝ }
 {
-    let n = sh_execute::execute(woken(m), memory, i);
-    finished(program, m, n, memory)
+    let n = a.machine;
+    if a.ends {
+        return Outcome {
+            stuck: false,
+            machine: finished(program, pending, address, n, memory),
+        };
+    }
+    Outcome {
+        stuck: a.stuck,
+        machine: n,
+    }
 }
 
-fn instructed(program: &[u16], m: Machine, memory: &mut [u8], d: Decoded) -> Outcome
-    ensures { λ r. ⌜ happened (r .stuck) (state (r .machine) (now (memory .exit))) ≡ instructedOf (now (program .entry)) (state m (now (memory .entry))) d ⌝ }
+// (c)
+fn executed(m: Machine, memory: &mut [u8], i: Instruction) -> Machine
+    ensures { λ r. ⌜ state r (now (memory .exit)) ≡ executeOf (state (wokenOf m) (now (memory .entry))) i ⌝ }
+{
+    sh_execute::execute(woken(m), memory, i)
+}
+
+fn instructed(m: Machine, memory: &mut [u8], d: Decoded) -> Acted
+    ensures { λ r. ⌜ ((p : List ℕ) → endedBy p (m .pending) (m .address) (r .ends) (r .stuck) (state (r .machine) (now (memory .exit))) ≡ instructedOf p (state m (now (memory .entry))) d) ⌝ }
 {
     let Decoded::Listed(i) = d else {
-        return Outcome {
+        return Acted {
             stuck: true,
+            ends: false,
             machine: m,
         };
     };
-    Outcome {
+    Acted {
         stuck: false,
-        machine: executed(program, m, memory, i),
+        ends: true,
+        machine: executed(m, memory, i),
     }
 }
 
-fn instruction_cycle(program: &[u16], m: Machine, memory: &mut [u8]) -> Outcome
-    ensures { λ r. ⌜ happened (r .stuck) (state (r .machine) (now (memory .exit))) ≡ instructedOf (now (program .entry)) (state m (now (memory .entry))) (decodeOf (at (now (program .entry)) (m .pc))) ⌝ }
+fn instruction_cycle(program: &[u16], m: Machine, memory: &mut [u8]) -> Acted
+    ensures { λ r. ⌜ endedBy (now (program .entry)) (m .pending) (m .address) (r .ends) (r .stuck) (state (r .machine) (now (memory .exit))) ≡ instructedOf (now (program .entry)) (state m (now (memory .entry))) (decodeOf (at (now (program .entry)) (m .pc))) ⌝ }
 {
     let pc = m.pc;
-    instructed(
-        program,
-        m,
-        memory,
-        word::decode(lent::fetch(program, pc as usize)),
-    )
+    instructed(m, memory, word::decode(lent::fetch(program, pc as usize)))
 }
 
 // (b)
-fn interrupt_cycle(program: &[u16], m: Machine, memory: &mut [u8], due: u8) -> Outcome
-    ensures { λ r. ⌜ happened (r .stuck) (state (r .machine) (now (memory .exit))) ≡ happened false (interruptCycleOf (now (program .entry)) (state m (now (memory .entry))) due) ⌝ }
+fn interrupt_cycle(m: Machine, memory: &mut [u8], due: u8) -> Acted
+    ensures { λ r. ⌜ ((p : List ℕ) → endedBy p (m .pending) (m .address) (r .ends) (r .stuck) (state (r .machine) (now (memory .exit))) ≡ happened false (interruptCycleOf p (state m (now (memory .entry))) due)) ⌝ }
 {
-    let n = sh_interrupts::interrupted(woken(m), memory, due);
-    Outcome {
+    Acted {
         stuck: false,
-        machine: finished(program, m, n, memory),
+        ends: true,
+        machine: sh_interrupts::interrupted(woken(m), memory, due),
     }
 }
 
-fn awake_cycle(program: &[u16], m: Machine, memory: &mut [u8], due: u8) -> Outcome
-    ensures { λ r. ⌜ happened (r .stuck) (state (r .machine) (now (memory .exit))) ≡ awakeCycleOf (now (program .entry)) (state m (now (memory .entry))) due ⌝ }
+fn awake_cycle(program: &[u16], m: Machine, memory: &mut [u8], due: u8) -> Acted
+    ensures { λ r. ⌜ endedBy (now (program .entry)) (m .pending) (m .address) (r .ends) (r .stuck) (state (r .machine) (now (memory .exit))) ≡ awakeCycleOf (now (program .entry)) (state m (now (memory .entry))) due ⌝ }
 {
     if due == 0 {
         return instruction_cycle(program, m, memory);
     }
-    interrupt_cycle(program, m, memory, due)
+    interrupt_cycle(m, memory, due)
 }
 
-fn halted_cycle(program: &[u16], m: Machine, memory: &mut [u8]) -> Machine
-    ensures { λ r. ⌜ state r (now (memory .exit)) ≡ finishedOf (now (program .entry)) m (state (readTakenOf m) (now (memory .entry))) ⌝ }
-{
-    finished(program, m, read_taken(m), memory)
-}
-
-fn asleep_cycle(program: &[u16], m: Machine, memory: &mut [u8]) -> Machine
-    ensures { λ r. ⌜ state r (now (memory .exit)) ≡ asleepCycleOf (now (program .entry)) (state m (now (memory .entry))) ⌝ }
+fn asleep_cycle(m: Machine) -> Acted
+    ensures { λ r. ⌜ ((p l : List ℕ) → endedBy p (m .pending) (m .address) (r .ends) (r .stuck) (state (r .machine) l) ≡ happened false (asleepCycleOf p (state m l))) ⌝ }
 {
     if m.mode == 1 {
-        return halted_cycle(program, m, memory);
+        return Acted {
+            stuck: false,
+            ends: true,
+            machine: read_taken(m),
+        };
     }
-    m
-}
-
-fn sleep(program: &[u16], m: Machine, memory: &mut [u8]) -> Outcome
-    ensures { λ r. ⌜ happened (r .stuck) (state (r .machine) (now (memory .exit))) ≡ happened false (asleepCycleOf (now (program .entry)) (state m (now (memory .entry)))) ⌝ }
-{
-    Outcome {
+    Acted {
         stuck: false,
-        machine: asleep_cycle(program, m, memory),
+        ends: false,
+        machine: m,
     }
 }
 
-fn cycle_due(program: &[u16], m: Machine, memory: &mut [u8], due: u8) -> Outcome
-    ensures { λ r. ⌜ happened (r .stuck) (state (r .machine) (now (memory .exit))) ≡ cycleDueOf (now (program .entry)) (state m (now (memory .entry))) due ⌝ }
+fn cycle_due(program: &[u16], m: Machine, memory: &mut [u8], due: u8) -> Acted
+    ensures { λ r. ⌜ endedBy (now (program .entry)) (m .pending) (m .address) (r .ends) (r .stuck) (state (r .machine) (now (memory .exit))) ≡ cycleDueOf (now (program .entry)) (state m (now (memory .entry))) due ⌝ }
 {
     if sh_interrupts::awake(m.mode, due) {
         return awake_cycle(program, m, memory, due);
     }
-    sleep(program, m, memory)
+    asleep_cycle(m)
 }
 
 // One cycle.
@@ -186,5 +212,6 @@ pub fn cycle(program: &[u16], m: Machine, memory: &mut [u8]) -> Outcome
     ensures { λ r. ⌜ happened (r .stuck) (state (r .machine) (now (memory .exit))) ≡ cycleOf (now (program .entry)) (state m (now (memory .entry))) ⌝ }
 {
     let due = sh_interrupts::due(memory);
-    cycle_due(program, m, memory, due)
+    let a = cycle_due(program, m, memory, due);
+    ended(program, m.pending, m.address, a, memory)
 }

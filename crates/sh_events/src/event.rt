@@ -48,7 +48,8 @@ fn pins(m: Machine, memory: &mut [u8], e: u8) -> Machine
     m
 }
 
-fn other(m: Machine, memory: &mut [u8], e: u8) -> Machine
+// An event that is no cycle.
+pub fn other(m: Machine, memory: &mut [u8], e: u8) -> Machine
     ensures { λ r. ⌜ state r (now (memory .exit)) ≡ otherOf (state m (now (memory .entry))) e ⌝ }
 {
     if e == 0x01 {

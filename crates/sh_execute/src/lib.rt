@@ -13,14 +13,14 @@ ghost use Rattle.sh_state.specs.State.{state};
 ghost use Rattle.sh_execute.specs.Execute.{nextOf, withinOf, onwardOf, tookOf, putOf, accumulatedOf, storedOf, loadOf, accumulatorFormOf, memoryFormOf, ldaOf, staOf, ldiOf, withImmediateOf, storedImmediateOf, immediateFormOf, daaOf, dasOf, takenOf, branchIfOf, branchOf, callOf, rtnwOf, rtniOf, restOf, shrOf, tjmpOf, executeOf};
 
 // PC+1 within 11 bits.
-fn next(pc: u16) -> u16
+pub fn next(pc: u16) -> u16
     ensures { λ r. ⌜ r ≡ nextOf pc ⌝ }
 {
     pc / 2048 * 2048 + (pc % 2048 + 1) % 2048
 }
 
 // A target within PC11's half.
-fn within(pc: u16, t: u16) -> u16
+pub fn within(pc: u16, t: u16) -> u16
     ensures { λ r. ⌜ r ≡ withinOf pc t ⌝ }
 {
     pc / 2048 * 2048 + t % 2048
@@ -58,25 +58,25 @@ fn put(m: Machine, memory: &mut [u8], a: u16, r: Sum) -> Machine
 fn accumulated(m: Machine, memory: &[u8], o: Operation, operand: u8, a: u16) -> Machine
     ensures { λ n. ⌜ n ≡ accumulatedOf (state m (now (memory .entry))) o operand a ⌝ }
 {
-    let r = sh_cells::read(m, memory, a);
-    let n = r.machine;
-    took(n, alu::calculated(o, r.value, operand, m.cy))
+    let v = sh_cells::value(m, memory, a);
+    let n = sh_cells::seen(m, memory, a);
+    took(n, alu::calculated(o, v, operand, m.cy))
 }
 
 fn stored(m: Machine, memory: &mut [u8], o: Operation, operand: u8, a: u16) -> Machine
     ensures { λ n. ⌜ state n (now (memory .exit)) ≡ storedOf (state m (now (memory .entry))) o operand a ⌝ }
 {
-    let r = sh_cells::read(m, memory, a);
-    let n = r.machine;
-    put(n, memory, a, alu::calculated(o, r.value, operand, m.cy))
+    let v = sh_cells::value(m, memory, a);
+    let n = sh_cells::seen(m, memory, a);
+    put(n, memory, a, alu::calculated(o, v, operand, m.cy))
 }
 
 fn load(m: Machine, memory: &[u8], a: u16) -> Machine
     ensures { λ n. ⌜ n ≡ loadOf (state m (now (memory .entry))) a ⌝ }
 {
-    let r = sh_cells::read(m, memory, a);
-    let n = r.machine;
-    took(n, alu::loaded(r.value, m.cy))
+    let v = sh_cells::value(m, memory, a);
+    let n = sh_cells::seen(m, memory, a);
+    took(n, alu::loaded(v, m.cy))
 }
 
 fn accumulator_form(m: Machine, memory: &[u8], o: Operation, x: u16) -> Machine
@@ -143,8 +143,7 @@ fn daa(m: Machine, memory: &mut [u8], x: u16) -> Machine
     ensures { λ n. ⌜ state n (now (memory .exit)) ≡ daaOf (state m (now (memory .entry))) x ⌝ }
 {
     let a = sh_cells::target(memory, x);
-    let r = sh_cells::read(m, memory, a);
-    let n = r.machine;
+    let n = sh_cells::seen(m, memory, a);
     put(n, memory, a, alu::decimal_added(m.ac, m.cy))
 }
 
@@ -152,12 +151,11 @@ fn das(m: Machine, memory: &mut [u8], x: u16) -> Machine
     ensures { λ n. ⌜ state n (now (memory .exit)) ≡ dasOf (state m (now (memory .entry))) x ⌝ }
 {
     let a = sh_cells::target(memory, x);
-    let r = sh_cells::read(m, memory, a);
-    let n = r.machine;
+    let n = sh_cells::seen(m, memory, a);
     put(n, memory, a, alu::decimal_subtracted(m.ac, m.cy))
 }
 
-fn taken(c: Condition, ac: u8, cy: u8) -> bool
+pub fn taken(c: Condition, ac: u8, cy: u8) -> bool
     ensures { λ r. ⌜ r ≡ takenOf c ac cy ⌝ }
 {
     match c {

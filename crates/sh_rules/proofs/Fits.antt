@@ -96,7 +96,7 @@ unbroken-at (v ∷ l) a (suc i) e =
     let z : a + suc i ≡ a + 1 + i = omega arith in
     by-eq (λ f. f ≡ Nothing → bitAnd (at l i) (heldOf (a + suc i)) ≡ at l i) (bitAnd v (heldOf a)) v _ _ (λ t f. rw z (unbroken-at l (a + 1) i f)) (λ t f. let y : _≡_ {A = ℕ} 0 1 = cc in absurd (omega arith)) e
 
-unbroken : (l : List ℕ) (a : ℕ) → ((i : ℕ) → bitAnd (at l i) (heldOf (a + i)) ≡ at l i) → brokenFrom l a ≡ Nothing
+pub unbroken : (l : List ℕ) (a : ℕ) → ((i : ℕ) → bitAnd (at l i) (heldOf (a + i)) ≡ at l i) → brokenFrom l a ≡ Nothing
 unfolding failsFrom cellFits
 unbroken [] a h = refl
 unbroken (v ∷ l) a h =

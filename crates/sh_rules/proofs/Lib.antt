@@ -1,2 +1,3 @@
 pub mod Laws
 pub mod Fits
+pub mod Spans

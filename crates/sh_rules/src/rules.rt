@@ -4,6 +4,11 @@ use sh_map::map;
 use sh_state::machine::Machine;
 ghost use mathlib.Core.Path.{_≡_};
 ghost use Rattle.sh_state.specs.State.{state};
+ghost use mathlib.Core.Bool.{true};
+ghost use Prim.Native.Nat.{_≤_};
+ghost use lib.ListN.{length};
+ghost use Rattle.lent.specs.declared.Found.the-variants.{Nothing};
+ghost use Rattle.sh_rules.specs.Spans.{Within, FitBelow};
 ghost use Rattle.sh_rules.specs.Rules.{cellFits, brokenFrom, cpuFits, stackFits, timer0Fits, baseFits, watchdogFits, bytesFit, pinsFit, optionsFit, pendingFits, wellFormedOf, tiesFit};
 
 // Whether a byte has no bit but those that the cell at an address holds.
@@ -16,10 +21,70 @@ fn cell_fits(a: usize, v: u8) -> bool
     v == 0
 }
 
+// Whether the bytes of a span, their bits taken together, are at most top; then each is.
+fn within(memory: &[u8], a: usize, e: usize, top: u8) -> bool
+    requires { ⌜ (a ≤ e) × (e ≤ length (now memory)) ⌝ }
+    ensures { λ r. ⌜ (r ≡ true → Within (now (memory .entry)) a e top) ⌝ }
+{
+    lent::joined(memory, a, e) <= top
+}
+
+// Whether each register holds no bit but its own.
+fn registers_fit(memory: &[u8]) -> bool
+    requires { ⌜ 32 ≤ length (now memory) ⌝ }
+    ensures { λ r. ⌜ (r ≡ true → FitBelow (now (memory .entry)) 32) ⌝ }
+{
+    let mut i: usize = 0;
+    while i < 32 {
+        if !cell_fits(i, memory[i]) {
+            return false;
+        }
+        i += 1;
+    }
+    true
+}
+
+// True only where every cell fits, by spans, which is quick; where it is false, the search decides.
+fn all_fit(memory: &[u8]) -> bool
+    ensures { λ r. ⌜ (r ≡ true → brokenFrom (now (memory .entry)) 0 ≡ Nothing) ⌝ }
+{
+    if memory.len() != Machine::CELLS {
+        return false;
+    }
+    if !within(memory, 0x020, 0x170, 15) {
+        return false;
+    }
+    if !within(memory, 0x170, 0x300, 0) {
+        return false;
+    }
+    if !within(memory, 0x300, 0x349, 15) {
+        return false;
+    }
+    if !within(memory, 0x349, 0x358, 0) {
+        return false;
+    }
+    if !within(memory, 0x358, 0x36E, 15) {
+        return false;
+    }
+    if !within(memory, 0x36E, 0x370, 0) {
+        return false;
+    }
+    if !within(memory, 0x370, 0x378, 15) {
+        return false;
+    }
+    if !within(memory, 0x378, 0x400, 0) {
+        return false;
+    }
+    registers_fit(memory)
+}
+
 // The lowest address whose byte breaks the memory rules.
 pub fn first_broken(memory: &[u8]) -> Found
     ensures { λ r. ⌜ r ≡ brokenFrom (now (memory .entry)) 0 ⌝ }
 {
+    if all_fit(memory) {
+        return Found::Nothing;
+    }
     let mut i: usize = 0;
     while i < memory.len() {
         if !cell_fits(i, memory[i]) {

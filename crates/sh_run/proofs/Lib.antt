@@ -1,3 +1,5 @@
 pub mod Laws
 pub mod Parts
 pub mod Keeps
+pub mod Stretches
+pub mod Singles

@@ -2,30 +2,32 @@
 ghost use mathlib.Core.Path.{_≡_};
 ghost use Rattle.sh_state.specs.Record.{setPc, entryOf, pushOf, popOf, newestOf, freshOf};
 
+// In the order that copies best: docs/DECISIONS.md, The quick run.
 pub struct Machine {
     pub pc: u16,
+    // Timer0's
+    pub prescaler: u16,
+    pub watchdog: u16,
+    // what a pending ROM read reads; 0 where none is
+    pub address: u16,
+    // CY times 4,096 plus PC, newest first
+    pub stack: [u16; Machine::LEVELS],
     pub ac: u8,
     pub cy: u8,
     // 0 running, 1 HALT, 2 STOP
     pub mode: u8,
-    // CY times 4,096 plus PC, newest first
-    pub stack: [u16; Machine::LEVELS],
-    // Timer0's
-    pub prescaler: u16,
+    // 1 while a ROM read waits
+    pub pending: u8,
     pub counter: u8,
     pub load: u8,
     pub baseprescaler: u8,
     pub basecounter: u8,
-    pub watchdog: u16,
     pub pina: u8,
     pub pinb: u8,
     pub pinc: u8,
     pub pind: u8,
     // bit 0 watchdog on, bits 1 and 2 the bonding bits BD0 and BD1
     pub options: u8,
-    // 1 while a ROM read waits, and the address that it reads; 0, 0 else
-    pub pending: u8,
-    pub address: u16,
 }
 
 impl Machine {

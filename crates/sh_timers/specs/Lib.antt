@@ -1,2 +1,3 @@
 pub mod Request
 pub mod Timer0
+pub mod Ticked

@@ -2,9 +2,10 @@
 use crate::request::Moved;
 use sh_state::machine::Machine;
 ghost use mathlib.Core.Path.{_≡_};
-ghost use Rattle.sh_timers.specs.Timer0.{reloadOf, countedOf, prescaledBy, prescaledOf, clockedOf, fallenOf};
-ghost use Rattle.sh_state.specs.Record.{setCounter, setPrescaler};
+ghost use Rattle.sh_timers.specs.Timer0.{reloadOf, countedOf, fallenOf};
+ghost use Rattle.sh_state.specs.Record.{setCounter};
 ghost use Rattle.sh_timers.specs.Request.{moved};
+ghost use Rattle.sh_timers.specs.Ticked.{tickedBy, tickedOf};
 
 fn reload(m: Machine, mode: u8) -> u8
     ensures { λ r. ⌜ r ≡ reloadOf m mode ⌝ }
@@ -41,56 +42,57 @@ fn counted(m: Machine, mode: u8) -> Moved
     overflowed(m, mode)
 }
 
-fn with_prescaler(m: Machine, v: u16) -> Machine
-    ensures { λ r. ⌜ r ≡ setPrescaler m v ⌝ }
-{
-    let mut n = m;
-    n.prescaler = v;
-    n
+// Timer0's own part of a clock: what its prescaler and counter become, and the bits of $001 that are set.
+pub struct Tick {
+    pub prescaler: u16,
+    pub counter: u8,
+    pub requests: u8,
 }
 
-fn prescaled_to(m: Machine, v: u16) -> Moved
-    ensures { λ r. ⌜ r ≡ moved (setPrescaler m v) 0 ⌝ }
-{
-    Moved {
-        machine: with_prescaler(m, v),
-        requests: 0,
-    }
-}
-
-fn restarted(m: Machine, mode: u8) -> Moved
-    ensures { λ r. ⌜ r ≡ countedOf (setPrescaler m 0) mode ⌝ }
-{
-    counted(with_prescaler(m, 0), mode)
-}
-
-fn prescaled_by(m: Machine, mode: u8, ratio: u16) -> Moved
-    ensures { λ r. ⌜ r ≡ prescaledBy m mode ratio ⌝ }
-{
-    let next = m.prescaler as u32 + 1;
-    if next < ratio as u32 {
-        return prescaled_to(m, next as u16);
-    }
-    restarted(m, mode)
-}
-
-fn prescaled(m: Machine, mode: u8) -> Moved
-    ensures { λ r. ⌜ r ≡ prescaledOf m mode ⌝ }
-{
-    prescaled_by(m, mode, sh_periods::ratio(mode))
-}
-
-// One system clock, by the mode in $002.
-pub fn clocked(m: Machine, mode: u8) -> Moved
-    ensures { λ r. ⌜ r ≡ clockedOf m mode ⌝ }
+fn ticked_by(prescaler: u16, counter: u8, load: u8, mode: u8, ratio: u16) -> Tick
+    ensures { λ r. ⌜ r ≡ tickedBy prescaler counter load mode ratio ⌝ }
 {
     if mode % 8 == 7 {
-        return Moved {
-            machine: m,
+        return Tick {
+            prescaler,
+            counter,
             requests: 0,
         };
     }
-    prescaled(m, mode)
+    let next = prescaler as u32 + 1;
+    if next < ratio as u32 {
+        return Tick {
+            prescaler: next as u16,
+            counter,
+            requests: 0,
+        };
+    }
+    if counter < 255 {
+        return Tick {
+            prescaler: 0,
+            counter: counter + 1,
+            requests: 0,
+        };
+    }
+    if mode / 8 % 2 == 1 {
+        return Tick {
+            prescaler: 0,
+            counter: load,
+            requests: 4,
+        };
+    }
+    Tick {
+        prescaler: 0,
+        counter: 0,
+        requests: 4,
+    }
+}
+
+// One system clock of the prescaler and the counter, by the mode in $002.
+pub fn ticked(prescaler: u16, counter: u8, load: u8, mode: u8) -> Tick
+    ensures { λ r. ⌜ r ≡ tickedOf prescaler counter load mode ⌝ }
+{
+    ticked_by(prescaler, counter, load, mode, sh_periods::ratio(mode))
 }
 
 // A falling edge of PORTA.0 as input (1), or none (0), by the mode in $002.

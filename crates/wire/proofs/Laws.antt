@@ -5,14 +5,15 @@ use mathlib.Core.List.{List, [], _∷_, _++_, append-nil}
 use native.Mathlib.Omega.{arith}
 use native.Mathlib.Nat.{zero-add}
 use native.Mathlib.Numerals.{add-one}
-use lib.ListN.{length, drop, set, drop-of-length-le, length-append, length-set, List·getD-append}
-use lib.Seq.{paste, paste-zero, paste-suc}
-use borrow.Author.Tests.{lt-ltb}
+use lib.Dec.{ltb, eqb}
+use lib.ListN.{length, drop, set, replicate, drop-of-length-le, length-append, length-set, length-replicate, List·getD-append}
+use lib.Seq.{paste, paste-zero, paste-suc, set-out, getD-set-same, getD-set-other, getD-append-seam}
+use borrow.Author.Tests.{lt-ltb, ltb-true, ltb-false, eqb-true, eqb-false}
 use Rattle.lent.specs.Lent.{at, pairAtOf, pairSetOf, pastedOf}
-use Rattle.lent.proofs.Laws.{pasted-fits, pasted-front, pasted-on}
+use Rattle.lent.proofs.Laws.{test, at-past, pasted-fits, pasted-front, pasted-on}
 use Rattle.sh_state.specs.declared.machine.Machine.{Machine}
 use Rattle.wire.specs.Record.{bytesOf}
-use Rattle.wire.specs.Words.{wordsOf, two, pairsOf}
+use Rattle.wire.specs.Words.{wordsOf, wordsAtOf, two, pairsOf}
 
 -- bytes pasted over as many are all that then stands there
 pub pasted-whole : (d s : List ℕ) → length s ≡ length d → pastedOf d 0 s ≡ s
@@ -39,6 +40,52 @@ pub length-words : (l : List ℕ) (n : ℕ) → length (wordsOf l n) ≡ n
 unfolding wordsOf
 length-words l zero = refl
 length-words l (suc n) = omega (arith, length-append (wordsOf l n) (pairAtOf l (n * 2) ∷ []), length-words l n)
+
+pub words-at : (l : List ℕ) (n i : ℕ) → i < n → at (wordsOf l n) i ≡ pairAtOf l (i * 2)
+unfolding wordsOf
+words-at l zero i h = absurd (omega arith)
+words-at l (suc n) i h =
+    test (eqb i n)
+    (λ t.
+    let e : i ≡ length (wordsOf l n) = omega (arith, eqb-true i n t, length-words l n) in
+    ap (λ (k : ℕ). at (wordsOf l n ++ pairAtOf l (n * 2) ∷ []) k) e ∙ (getD-append-seam (wordsOf l n) (pairAtOf l (n * 2)) [] 0 ∙ ap (λ (k : ℕ). pairAtOf l (k * 2)) (sym (eqb-true i n t))))
+    (λ t. let e = eqb-false i n t in List·getD-append (wordsOf l n) (pairAtOf l (n * 2) ∷ []) 0 i (omega (arith, length-words l n)) ∙ words-at l n i (omega arith))
+
+-- a word stored where it stands in another program of the same length
+module _ (w p : List ℕ) (e : length w ≡ length p) (a : ℕ) where
+  pub put-here : at (set w a (at p a)) a ≡ at p a
+  put-here =
+      test (ltb a (length w)) (λ t. getD-set-same w a (at p a) 0 (ltb-true a (length w) t))
+      (λ t. let h = ltb-false a (length w) t in rw (set-out w a (at p a) h, ← at-past w a h, ← at-past p a (omega arith)))
+
+  pub put-there : (i : ℕ) → at w i ≡ at p i → at (set w a (at p a)) i ≡ at p i
+  put-there i h = test (eqb i a) (λ t. let q = eqb-true i a t in rw q put-here) (λ t. getD-set-other w a i (at p a) 0 (eqb-false i a t) ∙ h)
+
+-- a program with two words of another has them at their addresses
+module _ (l : List ℕ) (a b : ℕ) where
+  abbrev none : List ℕ
+  none = replicate 4096 0
+
+  abbrev one : List ℕ
+  one = set none a (at (wordsOf l 4096) a)
+
+  none-length : length none ≡ length (wordsOf l 4096)
+  none-length = length-replicate {A = ℕ} 4096 0 ∙ sym (length-words l 4096)
+
+  one-length : length one ≡ length (wordsOf l 4096)
+  one-length = length-set none a (at (wordsOf l 4096) a) ∙ none-length
+
+  pub words-at-length : length (wordsAtOf l a b) ≡ length (wordsOf l 4096)
+  unfolding wordsAtOf
+  words-at-length = length-set one b (at (wordsOf l 4096) b) ∙ one-length
+
+  pub words-at-first : at (wordsAtOf l a b) a ≡ at (wordsOf l 4096) a
+  unfolding wordsAtOf
+  words-at-first = put-there one (wordsOf l 4096) one-length b a (put-here none (wordsOf l 4096) none-length a)
+
+  pub words-at-second : at (wordsAtOf l a b) b ≡ at (wordsOf l 4096) b
+  unfolding wordsAtOf
+  words-at-second = put-here one (wordsOf l 4096) one-length b
 
 pairs-zero : (w : List ℕ) → pairsOf w 0 ≡ []
 unfolding pairsOf

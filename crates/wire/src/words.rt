@@ -1,7 +1,8 @@
 // A program as a kind 1 body, and addresses, two bytes each.
 ghost use mathlib.Core.Path.{_≡_};
-ghost use Rattle.lent.specs.Lent.{pastedOf};
-ghost use Rattle.wire.specs.Words.{wordsOf, pairsOf};
+ghost use lib.ListN.{length, set};
+ghost use Rattle.lent.specs.Lent.{at, pastedOf};
+ghost use Rattle.wire.specs.Words.{wordsOf, wordsAtOf, pairsOf};
 
 // A program as bytes.
 pub const PROGRAM: usize = 8192;
@@ -16,6 +17,27 @@ pub fn words_of(body: &[u8]) -> [u16; 4096]
         w[i] = lent::pair_at(body, i * 2);
         i += 1;
     }
+    w
+}
+
+// The body's word at an address stored there; past the program nothing happens.
+fn put_word(body: &[u8], a: u16, w: &mut [u16])
+    requires { ⌜ length (now w) ≡ 4096 ⌝ }
+    ensures { λ _. ⌜ now (w .exit) ≡ set (now (w .entry)) a (at (wordsOf (now (body .entry)) 4096) a) ⌝ }
+{
+    let k = a as usize;
+    if k < w.len() {
+        w[k] = lent::pair_at(body, k * 2);
+    }
+}
+
+// A program that has the body's words at two addresses, and 0 elsewhere.
+pub fn words_at(body: &[u8], a: u16, b: u16) -> [u16; 4096]
+    ensures { λ r. ⌜ r ≡ wordsAtOf (now (body .entry)) a b ⌝ }
+{
+    let mut w = [0u16; 4096];
+    put_word(body, a, &mut w);
+    put_word(body, b, &mut w);
     w
 }
 

@@ -166,7 +166,7 @@ fn control(word: u16) -> Decoded
 }
 
 // The operation of a code 0-6.
-fn operation_of(code: u16) -> Operation
+pub fn operation_of(code: u16) -> Operation
     ensures { λ r. ⌜ r ≡ operationOf code ⌝ }
 {
     if code == 0 {

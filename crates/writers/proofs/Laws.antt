@@ -1,33 +1,23 @@
--- What a match leaves, and the list of writers as a loop over the program counts it and stores it.
-use mathlib.Core.Path.{_≡_, _∙_, ap, sym}
+-- Two tests, and the list of writers as a loop over the program counts it and stores it.
+use mathlib.Core.Path.{_≡_}
 use mathlib.Core.Bool.{Bool, true, false}
 use mathlib.Core.List.{List, [], _∷_, _++_}
 use Prim.Native.Nat.{ℕ, suc, _+_, _<_, _≤_}
 use native.Mathlib.Nat.{zero-add}
 use native.Mathlib.Numerals.{add-one}
 use native.Mathlib.Omega.{arith}
+use borrow.Author.Tests.{le-ltb}
 use lib.ListN.{length, take, drop, set, drop-of-length-le, take-append-drop}
 use lib.Seq.{take-suc-set, drop-set-lt, append-snoc}
 use Rattle.lent.specs.Lent.{over, both, at}
-use Rattle.lent.proofs.Laws.{drop-more}
-use Rattle.word.specs.declared.Decoded.{Decoded}
-use Rattle.word.specs.declared.ImmediateOperation.{ImmediateOperation}
-use Rattle.word.specs.declared.Instruction.{Instruction}
-use Rattle.word.specs.Word.{decodeOf}
+use Rattle.lent.proofs.Laws.{by-choice, drop-more}
 use Rattle.sh_map.specs.Map.{askableIn, askableOf}
 use Rattle.sh_map.proofs.Laws.{kind-past}
-use Rattle.writers.specs.Test.{changing, writesIn, writesBy, writesOf}
+use Rattle.writers.specs.Test.{writesOf}
+use Rattle.lent.specs.Outcome.{outcome}
+use Rattle.writers.specs.declared.Listed.the-variants.{Count}
+use Rattle.writers.specs.Answer.{filledOf}
 use Rattle.writers.specs.List.{writersFrom}
-
-pub changing-at : {o k : ImmediateOperation} {r : Bool} (i : ℕ) → o ≡ k → r ≡ changing k i → r ≡ changing o i
-changing-at i p q = q ∙ sym (ap (λ (n : ImmediateOperation). changing n i) p)
-
-pub writes-in-at : {i j : Instruction} {r : Bool} (c : ℕ) → i ≡ j → r ≡ writesIn j c → r ≡ writesIn i c
-writes-in-at c p q = q ∙ sym (ap (λ (n : Instruction). writesIn n c) p)
-
-pub writes-at : {d e : Decoded} {r : Bool} (w c : ℕ) → d ≡ decodeOf w → d ≡ e → r ≡ writesBy e c → r ≡ writesOf w c
-unfolding writesOf
-writes-at w c p q u = u ∙ ap (λ (n : Decoded). writesBy n c) (sym q ∙ p)
 
 -- two tests, the second made only where the first holds
 pub both-on : {n a b r : Bool} → n ≡ a → n ≡ true → r ≡ b → r ≡ both a b
@@ -56,6 +46,12 @@ module _ (p : List ℕ) (c a : ℕ) where
     unfolding writersFrom
     none-here t = rw (drop-more p a h, ← e, t)
 
+-- no more writers than words
+pub few : (a : ℕ) (p : List ℕ) (c : ℕ) → length (writersFrom a p c) ≤ length p
+unfolding writersFrom
+few a [] c = omega arith
+few a (w ∷ p) c = by-choice (λ (l : List ℕ). length l ≤ length (w ∷ p)) (writesOf w c) _ _ (omega (arith, few (a + 1) p c)) (omega (arith, few (a + 1) p c))
+
 -- A room whose first n entries are written, and the entries l that are still to be written.
 unfoldable pub placed : ℕ → List ℕ → List ℕ → List ℕ
 placed n l o = take n o ++ (l ++ drop (n + length l) o)
@@ -74,3 +70,8 @@ placed-on n a l o h =
     let z : n + suc (length l) ≡ suc n + length l = omega arith in
     let d : drop (suc n + length l) (set o n a) ≡ drop (suc n + length l) o = drop-set-lt (suc n + length l) o n a (omega arith) in
     rw (z, add-one n, take-suc-set o n a h, d) (append-snoc (take n o) a _)
+
+-- a list that has room
+pub in-room : (l o o' : List ℕ) (n : ℕ) → n ≡ length l → length l ≤ length o → o' ≡ over l o → outcome (Count n) o' ≡ filledOf l o
+unfolding filledOf
+in-room l o o' n q k u = rw (le-ltb (length o) (length l) k, q, u)

@@ -6,3 +6,4 @@ pub mod Step
 pub mod Listing
 pub mod Told
 pub mod Laws
+pub mod Bits

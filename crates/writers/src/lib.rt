@@ -3,18 +3,16 @@
 use refusal::Refusal;
 use sh_map::map;
 use sh_state::machine::Machine;
-use word::Decoded;
-use word::ImmediateOperation;
-use word::Instruction;
 ghost use mathlib.Core.Path.{_≡_};
 ghost use Prim.Native.Nat.{_≤_};
 ghost use lib.ListN.{length};
-ghost use Rattle.lent.specs.Lent.{both, over};
+ghost use Rattle.lent.specs.Lent.{over};
 ghost use Rattle.lent.specs.Outcome.{outcome};
 ghost use Rattle.sh_map.specs.Map.{askableOf};
-ghost use Rattle.writers.specs.Test.{names, changing, writesIn, writesOf};
+ghost use Rattle.writers.specs.Test.{names, writesOf};
+ghost use Rattle.writers.specs.Bits.{namedOf, rowOf, mayOf};
 ghost use Rattle.writers.specs.List.{writersOf};
-ghost use Rattle.writers.specs.Answer.{listOf};
+ghost use Rattle.writers.specs.Answer.{filledOf, listOf};
 
 pub enum Listed {
     Count(usize),
@@ -31,64 +29,58 @@ fn names_cell(x: u16, cell: u16) -> bool
     x == 0x0F
 }
 
-// Whether an immediate can make another value of some value.
-fn changes(operation: ImmediateOperation, i: u8) -> bool
-    ensures { λ r. ⌜ r ≡ changing operation i ⌝ }
+// The address that a word names.
+fn named(word: u16) -> u16
+    ensures { λ r. ⌜ r ≡ namedOf word ⌝ }
 {
-    match operation {
-        ImmediateOperation::Adi => false,
-        ImmediateOperation::Adim => i != 0,
-        ImmediateOperation::Sbi => false,
-        ImmediateOperation::Sbim => i != 0,
-        ImmediateOperation::Eorim => i != 0,
-        ImmediateOperation::Orim => i != 0,
-        ImmediateOperation::Andim => i != 15,
+    if word < 0x4000 {
+        return word % 1024;
+    }
+    word % 128
+}
+
+// A code's row: for each value of a word's bits 10-7 a bit, whether it writes what can differ.
+fn row(code: u16) -> u16
+    ensures { λ r. ⌜ r ≡ rowOf code ⌝ }
+{
+    match code {
+        0 => 0xFF00,
+        1 => 0xFF00,
+        2 => 0xFF00,
+        3 => 0xFF00,
+        4 => 0xFF00,
+        5 => 0xFF00,
+        6 => 0xFF00,
+        7 => 0xFF00,
+        8 => 0,
+        9 => 0xFFFE,
+        10 => 0,
+        11 => 0xFFFE,
+        12 => 0xFFFE,
+        13 => 0xFFFE,
+        14 => 0x7FFF,
+        15 => 0xFFFF,
+        25 => 0x0440,
+        _ => 0,
     }
 }
 
-fn immediate_writes(operation: ImmediateOperation, x: u16, i: u8, cell: u16) -> bool
-    ensures { λ r. ⌜ r ≡ both (names x cell) (changing operation i) ⌝ }
+// Whether what a word writes to the cell that it names can be another value.
+fn changes(word: u16) -> bool
+    ensures { λ r. ⌜ r ≡ mayOf word ⌝ }
 {
-    if names_cell(x, cell) {
-        return changes(operation, i);
-    }
-    false
-}
-
-// Whether an instruction can leave a cell of data, display or scan with another value.
-fn instruction_writes(instruction: Instruction, cell: u16) -> bool
-    ensures { λ r. ⌜ r ≡ writesIn instruction cell ⌝ }
-{
-    match instruction {
-        Instruction::Accumulator(_, _) => false,
-        Instruction::Memory(_, x) => names_cell(x, cell),
-        Instruction::Lda(_) => false,
-        Instruction::Sta(x) => names_cell(x, cell),
-        Instruction::Immediate(o, x, i) => immediate_writes(o, x, i, cell),
-        Instruction::Ldi(x, _) => names_cell(x, cell),
-        Instruction::Branch(_, _) => false,
-        Instruction::Call(_) => false,
-        Instruction::Daa(x) => names_cell(x, cell),
-        Instruction::Das(x) => names_cell(x, cell),
-        Instruction::Rtnw(_, _) => false,
-        Instruction::Rtni => false,
-        Instruction::Halt => false,
-        Instruction::Stop => false,
-        Instruction::Jmp(_) => false,
-        Instruction::Shr => false,
-        Instruction::Tjmp => false,
-        Instruction::Nop => false,
-    }
+    let bits = row(word / 2048);
+    (bits >> (word / 128 % 16)) % 2 == 1
 }
 
 // Whether a word's instruction can leave a cell of data, display or scan with another value; a word that is not listed is none.
 pub fn writes(word: u16, cell: u16) -> bool
     ensures { λ r. ⌜ r ≡ writesOf word cell ⌝ }
 {
-    let Decoded::Listed(i) = word::decode(word) else {
-        return false;
-    };
-    instruction_writes(i, cell)
+    if names_cell(named(word), cell) {
+        return changes(word);
+    }
+    false
 }
 
 // Any number may be asked.
@@ -116,10 +108,10 @@ fn count(program: &[u16], cell: u16) -> usize
     found
 }
 
-// The list in the room; what stands beyond it stays.
-fn fill(program: &[u16], cell: u16, room: &mut [u16])
+// The list in the room, and its length; what stands beyond it stays.
+fn fill(program: &[u16], cell: u16, room: &mut [u16]) -> usize
     requires { ⌜ (length (now program) ≡ 4096) × (length (writersOf (now program) cell) ≤ length (now room)) ⌝ }
-    ensures { λ _. ⌜ now (room .exit) ≡ over (writersOf (now (program .entry)) cell) (now (room .entry)) ⌝ }
+    ensures { λ r. ⌜ (r ≡ length (writersOf (now (program .entry)) cell)) × (now (room .exit) ≡ over (writersOf (now (program .entry)) cell) (now (room .entry))) ⌝ }
 {
     let mut n: usize = 0;
     let mut a: usize = 0;
@@ -130,6 +122,30 @@ fn fill(program: &[u16], cell: u16, room: &mut [u16])
         }
         a += 1;
     }
+    n
+}
+
+// A room that may be too small: the writers are counted before any is written.
+fn fill_counted(program: &[u16], cell: u16, room: &mut [u16]) -> Listed
+    requires { ⌜ length (now program) ≡ 4096 ⌝ }
+    ensures { λ r. ⌜ outcome r (now (room .exit)) ≡ filledOf (writersOf (now (program .entry)) cell) (now (room .entry)) ⌝ }
+{
+    let n = count(program, cell);
+    if room.len() < n {
+        return Listed::Refused(Refusal::Room(n as u64));
+    }
+    Listed::Count(fill(program, cell, room))
+}
+
+// A room for as many addresses as there are words is filled in one pass.
+fn fill_room(program: &[u16], cell: u16, room: &mut [u16]) -> Listed
+    requires { ⌜ length (now program) ≡ 4096 ⌝ }
+    ensures { λ r. ⌜ outcome r (now (room .exit)) ≡ filledOf (writersOf (now (program .entry)) cell) (now (room .entry)) ⌝ }
+{
+    if room.len() < Machine::WORDS {
+        return fill_counted(program, cell, room);
+    }
+    Listed::Count(fill(program, cell, room))
 }
 
 // The addresses at which the instruction can leave the cell with another value, ascending, and how many they are.
@@ -142,10 +158,5 @@ pub fn list(program: &[u16], cell: u32, room: &mut [u16]) -> Listed
     if !askable(cell) {
         return Listed::Refused(Refusal::NotAskable(cell as u64));
     }
-    let n = count(program, cell as u16);
-    if room.len() < n {
-        return Listed::Refused(Refusal::Room(n as u64));
-    }
-    fill(program, cell as u16, room);
-    Listed::Count(n)
+    fill_room(program, cell as u16, room)
 }

@@ -3,8 +3,8 @@ use borrow.Author.Needs.{needs}
 use Rattle.call_run.proofs.run_known.Statement.{statement}
 use Rattle.call_run.proofs.run_known.Tie as tie
 
-first-unknown-requires : tie.Need-first-unknown-requires
-first-unknown-requires c κs = search needs
+unknown-requires : tie.Need-unknown-requires
+unknown-requires c κs = search needs
 
 run-found-requires : tie.Need-run-found-requires
 run-found-requires c κs = search needs
@@ -16,4 +16,4 @@ returns : tie.Need-returns
 returns c = cc
 
 pub run-known-spec : {M : Type 1} → statement M
-run-known-spec = tie.close (tie.spec first-unknown-requires run-found-requires same-length returns)
+run-known-spec = tie.close (tie.spec unknown-requires run-found-requires same-length returns)

@@ -1,5 +1,6 @@
 -- `sh_execute::daa`: four calls, as the definition has them.
 use Rattle.sh_execute.specs.Execute.{daaOf}
+use Rattle.sh_cells.specs.Cells.{readOf}
 use borrow.Author.Needs.{needs}
 use Rattle.sh_execute.proofs.daa.Statement.{statement}
 use Rattle.sh_execute.proofs.daa.Tie as tie
@@ -7,8 +8,8 @@ use Rattle.sh_execute.proofs.daa.Tie as tie
 target-requires : tie.Need-target-requires
 target-requires c κs = search needs
 
-read-requires : tie.Need-read-requires
-read-requires c κs = search needs
+seen-requires : tie.Need-seen-requires
+seen-requires c κs = search needs
 
 decimal-added-requires : tie.Need-decimal-added-requires
 decimal-added-requires c κs = search needs
@@ -20,7 +21,7 @@ same-length : tie.Need-same-length
 same-length c = search needs
 
 returns : tie.Need-returns
-unfolding daaOf
+unfolding daaOf readOf
 returns c = cc
 
 pub daa-spec : {M : Type 1} → statement M
@@ -28,7 +29,7 @@ daa-spec =
     tie.close
     (tie.spec
     target-requires
-    read-requires
+    seen-requires
     decimal-added-requires
     put-requires
     same-length

@@ -102,8 +102,10 @@ returns : tie.Need-returns Inv-loop μ-loop
 returns c =
     let l = c .before .loop in
     let s = c .before .before .before .before in
-    sym (placed-end (l .n) (l .room))
-    ∙ (ap (λ (q : List ℕ). placed (l .n) q (l .room)) (sym (none-left (s .args .program .now) (s .args .cell) (l .a) (omega arith))) ∙ l .inv .4)
+    let e = none-left (s .args .program .now) (s .args .cell) (l .a) (omega arith) in (
+      omega (arith, ap length e, l .inv .3),
+      sym (placed-end (l .n) (l .room)) ∙ (ap (λ (q : List ℕ). placed (l .n) q (l .room)) (sym e) ∙ l .inv .4),
+    )
 
 pub fill-spec : {M : Type 1} → statement M
 fill-spec =

@@ -1,18 +1,18 @@
--- `writers::list`: the refusals in their order, then the count, then the list.
-use Prim.Native.Nat.{ℕ, _≤_, _<_}
+-- `writers::list`: the refusals in their order, then the list.
+use Prim.Native.Nat.{ℕ}
 use mathlib.Core.Path.{_≡_, _∙_, sym}
 use mathlib.Core.Bool.{Bool, true, false, not}
 use mathlib.Core.List.{List}
 use native.Mathlib.Omega.{arith}
 use borrow.Author.Needs.{needs}
-use borrow.Author.Tests.{eq-eqb, ne-eqb, lt-ltb, le-ltb, not-true, not-false}
+use borrow.Author.Tests.{eq-eqb, ne-eqb, not-true, not-false}
 use lib.ListN.{length}
-use Rattle.refusal.specs.declared.Refusal.the-variants.{ProgramLength, Room, NotAskable}
+use Rattle.refusal.specs.declared.Refusal.the-variants.{ProgramLength, NotAskable}
 use Rattle.sh_map.specs.Map.{askableOf}
-use Rattle.writers.specs.declared.Listed.the-variants.{Count, Refused}
+use Rattle.writers.specs.declared.Listed.{Listed}
+use Rattle.writers.specs.declared.Listed.the-variants.{Refused}
 use Rattle.writers.specs.List.{writersOf}
 use Rattle.writers.specs.Answer.{filledOf, listOf}
-use Rattle.lent.specs.Lent.{over}
 use Rattle.lent.specs.Outcome.{outcome}
 use Rattle.writers.proofs.Cell.{past-registers}
 use Rattle.writers.proofs.list.Statement.{statement}
@@ -28,14 +28,9 @@ module _ (p : List ℕ) (cell : ℕ) (o : List ℕ) where
     unfolding listOf
     not-askable t = rw (eq-eqb (length p) 4096 h, ← e, not-true r t)
 
-    module _ (t : not r ≡ false) (n : ℕ) (q : n ≡ length (writersOf p cell)) where
-      no-room : length o < n → outcome (Refused (Room n)) o ≡ listOf p cell o
-      unfolding listOf filledOf
-      no-room k = rw (eq-eqb (length p) 4096 h, ← e, not-false r t, ← q, lt-ltb (length o) n k)
-
-      in-room : (o' : List ℕ) → n ≤ length o → o' ≡ over (writersOf p cell) o → outcome (Count n) o' ≡ listOf p cell o
-      unfolding listOf filledOf
-      in-room o' k u = rw (eq-eqb (length p) 4096 h, ← e, not-false r t, ← q, le-ltb (length o) n k, u)
+    asked : not r ≡ false → (a : Listed) (o' : List ℕ) → outcome a o' ≡ filledOf (writersOf p cell) o → outcome a o' ≡ listOf p cell o
+    unfolding listOf
+    asked t a o' u = rw (eq-eqb (length p) 4096 h, ← e, not-false r t) u
 
 returns : tie.Need-returns
 returns c = search other-length
@@ -46,26 +41,17 @@ askable-requires c κs = search needs
 returns-2 : tie.Need-returns-2
 returns-2 c = search not-askable
 
-cast-count : tie.Need-cast-count
-cast-count c = let b = past-registers _ (sym (c .before .askable .ensures) ∙ not-false _ (c .if2 .left)) in omega arith
+cast-fill-room : tie.Need-cast-fill-room
+cast-fill-room c = let b = past-registers _ (sym (c .before .askable .ensures) ∙ not-false _ (c .if2 .left)) in omega arith
 
-count-requires : tie.Need-count-requires
-count-requires c κs = search needs
-
-returns-3 : tie.Need-returns-3
-returns-3 c = search no-room
-
-cast-fill : tie.Need-cast-fill
-cast-fill c = let b = past-registers _ (sym (c .before .before .before .askable .ensures) ∙ not-false _ (c .before .before .if2 .left)) in omega arith
-
-fill-requires : tie.Need-fill-requires
-fill-requires c κs = (omega arith, omega (arith, c .before .before .count .ensures))
+fill-room-requires : tie.Need-fill-room-requires
+fill-room-requires c κs = search needs
 
 same-length : tie.Need-same-length
 same-length c = search needs
 
-returns-4 : tie.Need-returns-4
-returns-4 c = search in-room
+returns-3 : tie.Need-returns-3
+returns-3 c = search asked
 
 pub list-spec : {M : Type 1} → statement M
 list-spec =
@@ -74,10 +60,7 @@ list-spec =
     returns
     askable-requires
     returns-2
-    cast-count
-    count-requires
-    returns-3
-    cast-fill
-    fill-requires
+    cast-fill-room
+    fill-room-requires
     same-length
-    returns-4)
+    returns-3)

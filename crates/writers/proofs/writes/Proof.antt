@@ -1,31 +1,24 @@
--- `writers::writes`: a listed word is tested, another is none.
-use Rattle.writers.specs.Test.{writesBy}
-use Rattle.writers.proofs.Laws.{writes-at}
+-- `writers::writes`: the second test is made where the first holds.
+use Rattle.writers.proofs.Bits.{bits-on, bits-off}
 use borrow.Author.Needs.{needs}
 use Rattle.writers.proofs.writes.Statement.{statement}
 use Rattle.writers.proofs.writes.Tie as tie
 
-decode-requires : tie.Need-decode-requires
-decode-requires c κs = search needs
+named-requires : tie.Need-named-requires
+named-requires c κs = search needs
 
-enum-known-i : tie.Need-enum-known-i
-enum-known-i c = search needs
+names-cell-requires : tie.Need-names-cell-requires
+names-cell-requires c κs = search needs
 
-enum-told : tie.Need-enum-told
-enum-told c = search needs
+changes-requires : tie.Need-changes-requires
+changes-requires c κs = search needs
 
 returns : tie.Need-returns
-unfolding writesBy
-returns c = search writes-at
-
-instruction-writes-requires : tie.Need-instruction-writes-requires
-instruction-writes-requires c κs = search needs
+returns c = search (bits-on, bits-off)
 
 returns-2 : tie.Need-returns-2
-unfolding writesBy
-returns-2 c = search writes-at
+returns-2 c = search (bits-on, bits-off)
 
 pub writes-spec : {M : Type 1} → statement M
 writes-spec =
-    tie.close
-    (tie.spec decode-requires enum-known-i enum-told returns instruction-writes-requires returns-2)
+    tie.close (tie.spec named-requires names-cell-requires changes-requires returns returns-2)

@@ -4,11 +4,11 @@ use borrow.Author.Needs.{needs}
 use Rattle.host.proofs.step.done.Statement.{statement}
 use Rattle.host.proofs.step.done.Tie as tie
 
-words-of-requires : tie.Need-words-of-requires
-words-of-requires c κs = search needs
-
 record-of-requires : tie.Need-record-of-requires
 record-of-requires c κs = search needs
+
+words-at-requires : tie.Need-words-at-requires
+words-at-requires c κs = search needs
 
 slice-aggregate-step : tie.Need-slice-aggregate-step
 slice-aggregate-step c = search needs
@@ -33,14 +33,14 @@ returns c =
     let w = c .before .before .before .before in
     let r = w .before .before .before .before .before in
     let m = r .before .before .before in
-    step-told _ _ _ _ _ _ _ _ _ (m .before .before .words-of .ensures) (m .record-of .ensures) (r .step .ensures) (m .before .before .before .before .before .before .pre) (w .write-record .ensures) (c .outcome .ensures)
+    step-told _ _ _ _ _ _ _ _ _ (m .before .record-of .ensures) (m .words-at .ensures) (r .step .ensures) (m .before .before .before .before .before .before .pre) (w .write-record .ensures) (c .outcome .ensures)
 
 pub done-spec : {M : Type 1} → statement M
 done-spec =
     tie.close
     (tie.spec
-    words-of-requires
     record-of-requires
+    words-at-requires
     slice-aggregate-step
     step-requires
     write-record-requires

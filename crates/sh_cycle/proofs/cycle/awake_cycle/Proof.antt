@@ -13,7 +13,7 @@ same-length c = search needs
 
 returns : tie.Need-returns
 unfolding awakeCycleOf
-returns c = search (eq-eqb, ne-eqb)
+returns c = search eq-eqb
 
 interrupt-cycle-requires : tie.Need-interrupt-cycle-requires
 interrupt-cycle-requires c κs = search needs
@@ -23,7 +23,9 @@ same-length-2 c = search needs
 
 returns-2 : tie.Need-returns-2
 unfolding awakeCycleOf
-returns-2 c = search (eq-eqb, ne-eqb)
+returns-2 c =
+    let a = c .before .before in
+    rw (ne-eqb _ _ (a .before .before .if1 .left)) (a .interrupt-cycle .ensures _)
 
 pub awake-cycle-spec : {M : Type 1} → statement M
 awake-cycle-spec =

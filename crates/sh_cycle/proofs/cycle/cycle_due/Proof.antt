@@ -19,17 +19,13 @@ returns c =
     let a = c .before .before in
     rw (← a .before .before .before .awake .ensures, a .before .before .if1 .taken) (a .awake-cycle .ensures)
 
-sleep-requires : tie.Need-sleep-requires
-sleep-requires c κs = search needs
-
-same-length-2 : tie.Need-same-length-2
-same-length-2 c = search needs
+asleep-cycle-requires : tie.Need-asleep-cycle-requires
+asleep-cycle-requires c κs = search needs
 
 returns-2 : tie.Need-returns-2
 unfolding cycleDueOf
 returns-2 c =
-    let a = c .before .before in
-    rw (← a .before .before .before .awake .ensures, a .before .before .if1 .left) (a .sleep .ensures)
+    rw (← c .before .before .awake .ensures, c .before .if1 .left) (c .asleep-cycle .ensures _ _)
 
 pub cycle-due-spec : {M : Type 1} → statement M
 cycle-due-spec =
@@ -39,6 +35,5 @@ cycle-due-spec =
     awake-cycle-requires
     same-length
     returns
-    sleep-requires
-    same-length-2
+    asleep-cycle-requires
     returns-2)

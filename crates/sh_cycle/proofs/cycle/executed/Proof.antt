@@ -1,5 +1,4 @@
--- `sh_cycle::cycle::executed`: three calls, as the definition has them.
-use Rattle.sh_cycle.specs.Cycle.{executedOf}
+-- `sh_cycle::cycle::executed`: two calls, as the contract has them.
 use borrow.Author.Needs.{needs}
 use Rattle.sh_cycle.proofs.cycle.executed.Statement.{statement}
 use Rattle.sh_cycle.proofs.cycle.executed.Tie as tie
@@ -10,16 +9,11 @@ woken-requires c κs = search needs
 execute-requires : tie.Need-execute-requires
 execute-requires c κs = search needs
 
-finished-requires : tie.Need-finished-requires
-finished-requires c κs = search needs
-
 same-length : tie.Need-same-length
 same-length c = search needs
 
 returns : tie.Need-returns
-unfolding executedOf
 returns c = cc
 
 pub executed-spec : {M : Type 1} → statement M
-executed-spec =
-    tie.close (tie.spec woken-requires execute-requires finished-requires same-length returns)
+executed-spec = tie.close (tie.spec woken-requires execute-requires same-length returns)

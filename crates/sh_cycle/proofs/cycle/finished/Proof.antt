@@ -1,5 +1,5 @@
 -- `sh_cycle::cycle::finished`: two calls, as the definition has them.
-use Rattle.sh_cycle.specs.Cycle.{finishedOf}
+use Rattle.sh_cycle.specs.Read.{finishedBy}
 use borrow.Author.Needs.{needs}
 use Rattle.sh_cycle.proofs.cycle.finished.Statement.{statement}
 use Rattle.sh_cycle.proofs.cycle.finished.Tie as tie
@@ -14,7 +14,7 @@ same-length : tie.Need-same-length
 same-length c = search needs
 
 returns : tie.Need-returns
-unfolding finishedOf
+unfolding finishedBy
 returns c = cc
 
 pub finished-spec : {M : Type 1} → statement M

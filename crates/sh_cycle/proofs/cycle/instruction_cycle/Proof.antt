@@ -1,4 +1,5 @@
 -- `sh_cycle::cycle::instruction_cycle`: the word at PC, read once.
+use Rattle.sh_cycle.proofs.Read.{fetched-by}
 use borrow.Author.Needs.{needs}
 use Rattle.sh_cycle.proofs.cycle.instruction_cycle.Statement.{statement}
 use Rattle.sh_cycle.proofs.cycle.instruction_cycle.Tie as tie
@@ -19,7 +20,7 @@ same-length : tie.Need-same-length
 same-length c = search needs
 
 returns : tie.Need-returns
-returns c = cc
+returns c = search fetched-by
 
 pub instruction-cycle-spec : {M : Type 1} → statement M
 instruction-cycle-spec =

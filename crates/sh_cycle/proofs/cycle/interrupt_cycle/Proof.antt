@@ -1,5 +1,5 @@
 -- `sh_cycle::cycle::interrupt_cycle`: two calls, as the definition has them.
-use Rattle.sh_cycle.specs.Cycle.{interruptCycleOf}
+use Rattle.sh_cycle.proofs.Read.{interrupted-by}
 use borrow.Author.Needs.{needs}
 use Rattle.sh_cycle.proofs.cycle.interrupt_cycle.Statement.{statement}
 use Rattle.sh_cycle.proofs.cycle.interrupt_cycle.Tie as tie
@@ -10,16 +10,11 @@ woken-requires c κs = search needs
 interrupted-requires : tie.Need-interrupted-requires
 interrupted-requires c κs = search needs
 
-finished-requires : tie.Need-finished-requires
-finished-requires c κs = search needs
-
 same-length : tie.Need-same-length
 same-length c = search needs
 
 returns : tie.Need-returns
-unfolding interruptCycleOf
-returns c = cc
+returns c = search interrupted-by
 
 pub interrupt-cycle-spec : {M : Type 1} → statement M
-interrupt-cycle-spec =
-    tie.close (tie.spec woken-requires interrupted-requires finished-requires same-length returns)
+interrupt-cycle-spec = tie.close (tie.spec woken-requires interrupted-requires same-length returns)

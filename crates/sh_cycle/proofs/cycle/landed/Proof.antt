@@ -1,6 +1,6 @@
 -- `sh_cycle::cycle::landed`: the same test.
 use borrow.Author.Tests.{eq-eqb, ne-eqb}
-use Rattle.sh_cycle.specs.Cycle.{landedOf}
+use Rattle.sh_cycle.specs.Read.{landedBy}
 use borrow.Author.Needs.{needs}
 use Rattle.sh_cycle.proofs.cycle.landed.Statement.{statement}
 use Rattle.sh_cycle.proofs.cycle.landed.Tie as tie
@@ -12,11 +12,11 @@ same-length : tie.Need-same-length
 same-length c = search needs
 
 returns : tie.Need-returns
-unfolding landedOf
+unfolding landedBy
 returns c = search (eq-eqb, ne-eqb)
 
 returns-2 : tie.Need-returns-2
-unfolding landedOf
+unfolding landedBy
 returns-2 c = search (eq-eqb, ne-eqb)
 
 pub landed-spec : {M : Type 1} → statement M
