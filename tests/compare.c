@@ -1,6 +1,6 @@
 /* Compares galhoveia with the second emulator over the C boundary: answers, values, and every lent byte. Two parts, so
-   that they can run side by side: `calls` has every word, refusal, panel and list, `runs` the random events. Prints
-   its progress and, as its last line, how many comparisons passed and failed. */
+   that they can run side by side: `calls` has every word, refusal, panel and list, `runs` the random events and the
+   quiet stretches. Prints its progress and, as its last line, how many comparisons passed and failed. */
 #include "compare.h"
 #include "support.h"
 
@@ -104,6 +104,7 @@ int main(int argc, char **argv)
         check_reached();
     } else {
         compare_runs(&plan);
+        compare_stretches(&plan);
     }
     progress("  (%s: %.1f s)", argv[1], seconds_since(&start));
     printf("%lu passed, %lu failed\n", passed, failed);

@@ -5,7 +5,7 @@
 #include <stdint.h>
 
 struct plan {
-    uint64_t events;      /* at least so many in random runs */
+    uint64_t events;      /* at least so many in random runs, and a fifth of them in quiet stretches */
     unsigned machines;    /* for each of the 65,536 words */
     unsigned cell_stride; /* the lists of every so many askable cells are asked for; 1 for all */
     const char *trials;   /* the file that the program trials wrote */
@@ -13,6 +13,7 @@ struct plan {
 
 void compare_words(const struct plan *plan);
 void compare_runs(const struct plan *plan);
+void compare_stretches(const struct plan *plan);
 void compare_refusals(void);
 void compare_lists(const struct plan *plan);
 void compare_panel(void);

@@ -2,6 +2,7 @@
    and the second emulator's machine event by event, which also counts what happened; on some machines also through
    both emulators' single steps. All must come to the same answers and the same bytes. */
 #include "compare.h"
+#include "result.h"
 #include "support.h"
 
 #include "../desk/galhoveia.h"
@@ -109,35 +110,9 @@ static void count_event(const struct glimpse *before, const struct second_machin
     happened[PIN_COUNTED] += event >= PINS_A && now->timer0_counter != before->timer0_counter;
 }
 
-/* ---- One stretch of a script ---- */
+/* ---- One part of a script ---- */
 
-struct result {
-    uint32_t answer;
-    uint32_t reason;
-    uint64_t events;
-    uint64_t value;
-    struct machine machine;
-};
-
-static bool same(const struct result *left, const struct result *right)
-{
-    return left->answer == right->answer && left->reason == right->reason && left->events == right->events
-           && left->value == right->value && memcmp(&left->machine, &right->machine, sizeof left->machine) == 0;
-}
-
-typedef uint32_t runs(const uint8_t *, size_t, uint8_t *, size_t, uint8_t *, size_t, const uint8_t *, size_t, uint32_t,
-                      uint32_t *, uint64_t *, uint64_t *);
 typedef uint32_t steps(const uint8_t *, size_t, uint8_t *, size_t, uint8_t *, size_t, uint8_t, uint64_t *);
-
-static struct result by_run(runs *run, const struct machine *start, const uint8_t *script, size_t length,
-                            uint32_t stop)
-{
-    struct result result = {99, 99, 99, 99, *start};
-
-    result.answer = run(program, PROGRAM_BYTES, result.machine.memory, MEMORY_BYTES, result.machine.record, RECORD_BYTES,
-                        script, length, stop, &result.reason, &result.events, &result.value);
-    return result;
-}
 
 /* What a run must come to, put together from single steps (01, Events; docs/DECISIONS.md, readings 16 to 18). */
 static struct result by_steps(steps *step, const struct machine *start, const uint8_t *script, size_t length,
@@ -224,8 +199,8 @@ static void one_machine(uint64_t number)
     while (at < length) {
         size_t stretch = 1 + any((uint32_t)(any(4) ? (length - at + 7) / 8 : length - at));
         uint32_t stop = any_stop();
-        struct result ours = by_run(galhoveia_run, &machine, script + at, stretch, stop);
-        struct result second = by_run(second_run, &machine, script + at, stretch, stop);
+        struct result ours = by_run(galhoveia_run, program, &machine, script + at, stretch, stop);
+        struct result second = by_run(second_run, program, &machine, script + at, stretch, stop);
         struct result watched = by_watching(&machine, script + at, stretch, stop);
 
         check(same(&ours, &second),

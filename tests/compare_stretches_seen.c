@@ -1,0 +1,296 @@
+/* How a stretch of quiet cycles was seen to end, whatever it was drawn for: told from the second emulator's machine
+   before and after each event. */
+#include "compare_stretches.h"
+
+#include <inttypes.h>
+#include <stdio.h>
+
+/* ---- The ways ---- */
+
+enum { AWAKE_ONLY = 1, ASLEEP_ONLY = 2, BOTH = 3 };
+
+static const struct {
+    const char *name;
+    int possible;
+} ways[WAYS] = {
+    [BY_OVERFLOW] = {"overflow, ratio 2048", BOTH}, {"overflow, ratio 512", BOTH}, {"overflow, ratio 128", BOTH},
+    {"overflow, ratio 32", BOTH}, {"overflow, ratio 8", BOTH}, {"overflow, ratio 4", BOTH},
+    {"overflow, ratio 2", BOTH},
+    {"overflow with reload, ratio 2048", BOTH}, {"overflow with reload, ratio 512", BOTH},
+    {"overflow with reload, ratio 128", BOTH}, {"overflow with reload, ratio 32", BOTH},
+    {"overflow with reload, ratio 8", BOTH}, {"overflow with reload, ratio 4", BOTH},
+    {"overflow with reload, ratio 2", BOTH},
+    [BY_PIN_COUNT] = {"edge counted by Timer0", BOTH}, [BY_PIN_OVERFLOW] = {"overflow by an edge", BOTH},
+    [DUE_BY_OVERFLOW] = {"interrupt due by an overflow", BOTH},
+    [DUE_BY_PIN_OVERFLOW] = {"interrupt due by an overflow by an edge", BOTH},
+    [DUE_BY_EXTERNAL] = {"interrupt due by PA0", BOTH}, [DUE_BY_PORT_B] = {"interrupt due by port B", BOTH},
+    [DUE_BY_PORT_C] = {"interrupt due by port C", BOTH}, [DUE_BY_BASE] = {"interrupt due by the base timer", BOTH},
+    [DUE_BY_000] = {"interrupt due by a write to $000", AWAKE_ONLY},
+    [DUE_BY_001] = {"interrupt due by a write to $001", AWAKE_ONLY},
+    [BY_PINS_A] = {"pins of port A", BOTH}, [BY_PINS_B] = {"pins of port B", BOTH},
+    [BY_PINS_C] = {"pins of port C", BOTH}, [BY_PINS_D] = {"pins of port D", BOTH},
+    [BY_BASE_PULSE] = {"base timer's pulse", BOTH}, [BY_WATCHDOG_PULSE] = {"watchdog's pulse", BOTH},
+    [BY_WATCHDOG_RESET] = {"watchdog's reset", BOTH}, [BY_PIN_RESET] = {"reset pin", BOTH},
+    [BY_UNLISTED] = {"unlisted word", AWAKE_ONLY},
+    [STOP_BY_GOING_ON] = {"stop address by going on", AWAKE_ONLY},
+    [STOP_BY_BRANCH] = {"stop address by a branch", AWAKE_ONLY},
+    [STOP_BY_CALL] = {"stop address by CALL", AWAKE_ONLY}, [STOP_BY_RTNI] = {"stop address by RTNI", AWAKE_ONLY},
+    [STOP_BY_RTNW] = {"stop address by RTNW", AWAKE_ONLY}, [STOP_BY_TJMP] = {"stop address by TJMP", AWAKE_ONLY},
+    [STOP_BY_INTERRUPT] = {"stop address by an interrupt's entry", BOTH},
+    [STOP_AND_DUE] = {"stop address, as an interrupt becomes due", AWAKE_ONLY},
+    [STOP_FROM_THE_START] = {"stop address from the start", ASLEEP_ONLY},
+    [BY_HALT] = {"HALT", AWAKE_ONLY}, [BY_STOP] = {"STOP", AWAKE_ONLY},
+    [BY_ROM_READ] = {"write to $01A, a ROM read", AWAKE_ONLY},
+    [BY_ROM_READ_AND_HALT] = {"write to $01A and HALT", AWAKE_ONLY},
+    [BY_WRITE_002] = {"write to $002", AWAKE_ONLY}, [BY_WRITE_003] = {"write to $003", AWAKE_ONLY},
+    [BY_WRITE_004] = {"write to $004", AWAKE_ONLY}, [BY_WRITE_005] = {"write to $005", AWAKE_ONLY},
+    [BY_WRITE_01E] = {"write to $01E", AWAKE_ONLY}, [BY_READ_004] = {"read of $004", AWAKE_ONLY},
+    [BY_READ_005] = {"read of $005", AWAKE_ONLY}, [BY_READ_01E] = {"read of $01E", AWAKE_ONLY},
+    [BY_OTHER_CELL] = {"sound cell, or none", AWAKE_ONLY},
+    [BY_DECIMAL_ON_REGISTER] = {"DAA or DAS on a register", AWAKE_ONLY},
+    [BY_END] = {"script's end", BOTH}, [END_BEFORE_OVERFLOW] = {"script's end, one before the overflow", BOTH},
+    [END_AT_OVERFLOW] = {"script's end, at the overflow", BOTH},
+    [END_AFTER_OVERFLOW] = {"script's end, one after the overflow", BOTH},
+    [SCRIPT_OF_NONE] = {"script of no event", BOTH}, [SCRIPT_OF_ONE] = {"script of one event", BOTH},
+    [SCRIPT_OF_TWO] = {"script of two events", BOTH},
+};
+
+static uint64_t met[WAYS][2]; /* awake, asleep */
+static uint64_t longest;
+
+bool is_possible(enum way way, bool asleep)
+{
+    return ways[way].possible & (asleep ? ASLEEP_ONLY : AWAKE_ONLY);
+}
+
+void tell_ways(void)
+{
+    printf("  %-44s %9s %9s\n", "stretches of quiet cycles ended by", "awake", "in HALT");
+    for (enum way way = 0; way < WAYS; way++) {
+        printf("  %-44s", ways[way].name);
+        for (int asleep = 0; asleep < 2; asleep++)
+            if (is_possible(way, asleep))
+                printf(" %9" PRIu64, met[way][asleep]);
+            else
+                printf(" %9s", "-");
+        printf("\n");
+        for (int asleep = 0; asleep < 2; asleep++)
+            if (is_possible(way, asleep))
+                check(met[way][asleep] > 0, "no stretch %s ended by: %s", asleep ? "in HALT" : "awake", ways[way].name);
+    }
+    printf("  %-44s %9" PRIu64 "\n", "quiet cycles in the longest", longest);
+}
+
+/* ---- One run ---- */
+
+#define NEVER (UINT64_MAX / 2)
+
+static uint64_t at, quiet;                  /* this event, and the quiet cycles right before it */
+static uint64_t long_ended_at, overflow_at; /* the event behind the one that ended a long stretch, or behind its overflow */
+static bool ended, begun_asleep;
+
+static void mark(enum way way, bool asleep)
+{
+    ended = true;
+    if (quiet >= QUIET_LEAST)
+        met[way][asleep]++;
+}
+
+/* What comes right after the event that ended a stretch. */
+static void mark_late(enum way way, bool asleep)
+{
+    ended = true;
+    if (long_ended_at == at)
+        met[way][asleep]++;
+}
+
+static unsigned due(const struct second_machine *m)
+{
+    return m->cell[0] & m->cell[1];
+}
+
+static bool is_at_overflow(const struct second_machine *m)
+{
+    return (m->cell[2] & SOURCE_BITS) != PIN_SOURCE && m->timer0_counter == 255
+           && m->timer0_prescaler == ratio_of(m->cell[2]) - 1;
+}
+
+static void see_pins(const struct second_machine *before, const struct second_machine *now, unsigned port)
+{
+    bool asleep = before->mode == SECOND_HALT, falls = before->pins[0] & ~now->pins[0] & ~before->cell[PACR] & 1;
+
+    mark(BY_PINS_A + port, asleep);
+    if (falls && (before->cell[2] & SOURCE_BITS) == PIN_SOURCE)
+        mark(before->timer0_counter == 255 ? BY_PIN_OVERFLOW : BY_PIN_COUNT, asleep);
+    if (due(before))
+        return;
+    if (due(now) & EXTERNAL)
+        mark(DUE_BY_EXTERNAL, asleep);
+    if (due(now) & TIMER0)
+        mark(DUE_BY_PIN_OVERFLOW, asleep);
+    if (due(now) & PORT)
+        mark(port == 1 ? DUE_BY_PORT_B : DUE_BY_PORT_C, asleep);
+}
+
+static void see_pulse(const struct second_machine *before, const struct second_machine *now, uint8_t event)
+{
+    bool asleep = before->mode == SECOND_HALT;
+
+    if (event == RESET_PIN)
+        mark(BY_PIN_RESET, asleep);
+    else if (event == WATCHDOG_PULSE)
+        mark((before->options & 1) && before->watchdog == 1 ? BY_WATCHDOG_RESET : BY_WATCHDOG_PULSE, asleep);
+    else
+        mark(!due(before) && due(now) ? DUE_BY_BASE : BY_BASE_PULSE, asleep);
+}
+
+/* What a word does with a cell, $00F taken for the cell that it stands for. */
+struct touch {
+    unsigned cell;
+    bool reads, writes;
+};
+
+static struct touch touch_of(const struct second_machine *m, uint16_t word)
+{
+    unsigned code = word >> 11;
+    struct touch touch = {word & (code < 8 ? 0x3FF : 0x7F), true, true};
+
+    if (code < 8)
+        touch.writes = word & 0x400;
+    else
+        touch.writes = code != 8 && code != 10;
+    touch.reads = !(code == 7 && touch.writes) && code != 15;
+    if (touch.cell == 0x00F)
+        touch.cell = 128u * m->cell[0x12] + 16u * m->cell[0x11] + m->cell[0x10];
+    return touch;
+}
+
+static void see_read(unsigned cell)
+{
+    if (cell == 0x004 || cell == 0x005)
+        mark(BY_READ_004 + (cell - 0x004), false);
+    else if (cell == 0x01E)
+        mark(BY_READ_01E, false);
+}
+
+static void see_write(unsigned cell, bool now_due)
+{
+    if (cell <= 0x001 && now_due)
+        mark(DUE_BY_000 + cell, false);
+    else if (0x002 <= cell && cell <= 0x005)
+        mark(BY_WRITE_002 + (cell - 0x002), false);
+    else if (cell == 0x01A)
+        mark(BY_ROM_READ, false);
+    else if (cell == 0x01E)
+        mark(BY_WRITE_01E, false);
+}
+
+static unsigned next_of(unsigned pc)
+{
+    return (pc & PAGE) | ((pc + 1) & (PAGE - 1));
+}
+
+static enum way stop_by(uint16_t word, bool goes_on)
+{
+    if (word >> 11 == 24)
+        return STOP_BY_CALL;
+    if (word >> 8 == 0xD0)
+        return STOP_BY_RTNW;
+    if (word == RTNI_WORD)
+        return STOP_BY_RTNI;
+    if (word == TJMP_WORD)
+        return STOP_BY_TJMP;
+    return goes_on ? STOP_BY_GOING_ON : STOP_BY_BRANCH;
+}
+
+static void see_word(const struct second_machine *before, const struct second_machine *now, uint16_t word)
+{
+    unsigned code = word >> 11;
+
+    if (code == 27)
+        mark(word == HALT_WORD ? BY_HALT : BY_STOP, false);
+    if (code < 16 || code == 25) {
+        struct touch touch = touch_of(before, word);
+
+        if (touch.reads)
+            see_read(touch.cell);
+        if (touch.writes)
+            see_write(touch.cell, due(now));
+        if (touch.cell >= 0x020 && !is_askable(touch.cell))
+            mark(BY_OTHER_CELL, false);
+        if (touch.cell < 0x020 && code == 25)
+            mark(BY_DECIMAL_ON_REGISTER, false);
+    }
+    if (now->pc == drawn.stop)
+        mark(due(now) ? STOP_AND_DUE : stop_by(word, now->pc == next_of(before->pc)), false);
+}
+
+static void see_cycle(const struct second_machine *before, const struct second_machine *now)
+{
+    bool asleep = before->mode == SECOND_HALT;
+    uint16_t word = (uint16_t)two(drawn.program + 2 * before->pc);
+
+    ended = before->mode == SECOND_STOP || before->pending || due(before);
+    if (due(before)) {
+        if (now->pc == drawn.stop)
+            mark_late(STOP_BY_INTERRUPT, asleep);
+    } else if (asleep) {
+        met[STOP_FROM_THE_START][1] += begun_asleep && now->pc == drawn.stop;
+    } else if (before->pending) {
+        if (word == HALT_WORD)
+            mark_late(BY_ROM_READ_AND_HALT, false);
+    } else if (before->mode == SECOND_RUNNING) {
+        see_word(before, now, word);
+    }
+    if (!ended && is_at_overflow(before)) {
+        unsigned source = before->cell[2] & SOURCE_BITS;
+
+        if (quiet >= QUIET_LEAST)
+            overflow_at = at + 1;
+        mark(BY_OVERFLOW + (before->cell[2] & RELOAD_BIT ? RATIOS : 0) + source, asleep);
+        if (due(now))
+            mark(DUE_BY_OVERFLOW, asleep);
+    }
+}
+
+void watch_begins(void)
+{
+    at = quiet = 0;
+    long_ended_at = overflow_at = NEVER;
+    begun_asleep = drawn.start.record[R_MODE] == IN_HALT;
+}
+
+void watch_event(const struct second_machine *before, const struct second_machine *now, uint8_t event)
+{
+    ended = false;
+    if (event == CYCLE)
+        see_cycle(before, now);
+    else if (event >= PINS_A)
+        see_pins(before, now, (event >> 4) - 1u);
+    else
+        see_pulse(before, now, event);
+    at++;
+    if (ended && quiet >= QUIET_LEAST)
+        long_ended_at = at;
+    quiet = ended ? 0 : quiet + 1;
+    if (quiet > longest)
+        longest = quiet;
+}
+
+void watch_ends(const struct second_machine *now, enum second_reason reason)
+{
+    bool asleep = now->mode == SECOND_HALT;
+
+    if (reason == SECOND_AT_UNLISTED)
+        mark(BY_UNLISTED, false);
+    if (reason != SECOND_AT_END || now->mode == SECOND_STOP)
+        return;
+    if (drawn.length <= 2)
+        met[SCRIPT_OF_NONE + drawn.length][asleep]++;
+    else
+        mark(is_at_overflow(now) ? END_BEFORE_OVERFLOW : BY_END, asleep);
+    if (overflow_at == at)
+        met[END_AT_OVERFLOW][asleep]++;
+    if (overflow_at + 1 == at)
+        met[END_AFTER_OVERFLOW][asleep]++;
+}
