@@ -3,7 +3,8 @@
 #   make test            all tests of the C side; the last line tells how many passed and failed
 #   make test-sanitized  the same with the address and undefined-behaviour sanitizers, with fewer events
 #   make wrong           tries every wrong answer by itself, over the proved crates; make wrong CRATE=sh_map those of one crate
-#   make bench           speed beside the second emulator, natively
+#   make bench           speed beside the second emulator, natively; make bench BEFORE=old/libhost.a also beside an
+#                        earlier library, an archive or object for this processor
 CC = gcc
 CXX = g++
 STRICT = -Wall -Wextra -pedantic
@@ -91,7 +92,17 @@ build/sanitized/objects/%.o: %.c $(HEADERS)
 
 build/bench/objects/%.o: %.c $(HEADERS)
 	@mkdir -p $(dir $@)
-	$(CC) -std=c11 -O3 $(STRICT) -c -o $@ $<
+	$(CC) -std=c11 -O3 $(STRICT) $(DEFINES) -c -o $@ $<
+
+build/bench/objects/bench/sides.o: DEFINES = $(if $(BEFORE),-DBENCH_BEFORE)
+build/bench/objects/bench/sides.o: asked
+
+# The earlier library: its calls get other names, and everything else in it stays its own.
+build/bench/before.o: $(BEFORE) asked
+	@mkdir -p $(dir $@)
+	ld -r -o $@ --whole-archive $<
+	objcopy $(foreach call,run step list level picture,--redefine-sym galhoveia_$(call)=before_$(call)) $@
+	objcopy --wildcard --keep-global-symbol='before_*' $@
 
 build/sanitized/libstandin.a: $(patsubst %.c,build/sanitized/objects/%.o,tests/standin.c $(SECOND))
 	rm -f $@
@@ -105,8 +116,9 @@ build/plain/desk: $(DESK:%.c=build/plain/objects/%.o) $(LIB)
 build/plain/compare: $(patsubst %.c,build/plain/objects/%.o,$(COMPARE) $(SECOND)) $(LIB)
 	$(LINK)
 
-# Linked each time, so that it has the library that was asked for.
-build/bench/measure: $(patsubst %.c,build/bench/objects/%.o,$(BENCH) $(SECOND)) $(BENCH_LIB)
+# Linked each time, so that it has the libraries that were asked for.
+build/bench/measure: $(patsubst %.c,build/bench/objects/%.o,$(BENCH) $(SECOND)) $(BENCH_LIB) \
+    $(if $(BEFORE),build/bench/before.o)
 	$(CC) -o $@ $^
 
 build/plain/header: build/plain/objects/tests/header.o $(LIB)
@@ -155,5 +167,5 @@ bench: build/bench/measure
 clean:
 	rm -rf build
 
-.PHONY: all archive desk demo test test-sanitized wrong bench build/bench/measure clean
+.PHONY: all archive desk demo test test-sanitized wrong bench build/bench/measure asked clean
 .SECONDARY:

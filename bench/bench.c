@@ -1,38 +1,18 @@
-/* Measures galhoveia beside the second emulator: the same inputs, in one run, turn by turn, the best of several turns
-   each. A ratio of 1 means as fast as the second emulator, 0.25 a quarter of its speed. */
-#define _POSIX_C_SOURCE 199309L
+/* Measures galhoveia beside the second emulator and, where one is given, beside an earlier galhoveia: the same inputs,
+   in one run, turn by turn, the best of several turns each. A ratio of 1 means as fast as the second emulator, 0.25 a
+   quarter of its speed; the last column is the speed now over the speed before. */
 #include "loads.h"
-
-#include "../desk/galhoveia.h"
-#include "../second/second.h"
+#include "sides.h"
+#include "timing.h"
 
 #include <stdio.h>
 #include <stdlib.h>
 #include <string.h>
-#include <time.h>
 
 enum {
-    TURNS = 9, RUN_EVENTS = 2000000, STEPS = 40000, LISTS = 40, SECOND_LISTS = 1, OFTEN = 10, SELDOM = 100,
-    LONGEST = 10000000, TIMED_AT_LEAST = 1000000
+    TURNS = 9, RUN_EVENTS = 2000000, STEPS = 40000, LISTED_CELLS = 40, LISTS = 40, SECOND_LISTS = 1, LEVELS = 40000,
+    PICTURES = 40000, OFTEN = 10, SELDOM = 100, LONGEST = 10000000, TIMED_AT_LEAST = 1000000
 };
-
-struct load {
-    const uint8_t *program, *script;
-};
-
-struct machine {
-    uint8_t memory[GALHOVEIA_MEMORY_BYTES];
-    uint8_t record[GALHOVEIA_RECORD_BYTES];
-};
-
-/* Processor time, so that other work on the machine counts as little as possible. */
-static double now(void)
-{
-    struct timespec time;
-
-    clock_gettime(CLOCK_PROCESS_CPUTIME_ID, &time);
-    return (double)time.tv_sec + 1e-9 * (double)time.tv_nsec;
-}
 
 static void fresh(struct machine *machine)
 {
@@ -46,63 +26,22 @@ static void fresh(struct machine *machine)
     machine->memory[0x011] = 2;
 }
 
-/* ---- Timing ---- */
-
-typedef uint32_t runs(const uint8_t *, size_t, uint8_t *, size_t, uint8_t *, size_t, const uint8_t *, size_t, uint32_t,
-                      uint32_t *, uint64_t *, uint64_t *);
-typedef uint32_t steps(const uint8_t *, size_t, uint8_t *, size_t, uint8_t *, size_t, uint8_t, uint64_t *);
-typedef uint32_t lists(const uint8_t *, size_t, uint32_t, uint8_t *, size_t, uint64_t *, uint64_t *);
-
-/* The machine goes on from one run to the next, so that short runs come to the same words as long ones. */
-static double time_runs(runs *run, struct load load, size_t length, size_t times, struct machine *machine)
-{
-    uint32_t reason;
-    uint64_t events, value;
-    double start = now();
-
-    for (size_t at = 0; at < times; at++)
-        if (run(load.program, GALHOVEIA_PROGRAM_BYTES, machine->memory, sizeof machine->memory, machine->record,
-                sizeof machine->record, load.script, length, GALHOVEIA_NO_STOP, &reason, &events, &value) != 0
-            || events != length) {
-            printf("a run was not done\n");
-            exit(EXIT_FAILURE);
-        }
-    return (now() - start) / (double)(length * times);
-}
-
-static double time_steps(steps *step, struct load load, struct machine *machine)
-{
-    uint64_t value;
-    double start = now();
-
-    for (int at = 0; at < STEPS; at++)
-        if (step(load.program, GALHOVEIA_PROGRAM_BYTES, machine->memory, sizeof machine->memory, machine->record,
-                 sizeof machine->record, load.script[at], &value) != 0) {
-            printf("a step was not done\n");
-            exit(EXIT_FAILURE);
-        }
-    return (now() - start) / STEPS;
-}
-
-static double time_lists(lists *list, const uint8_t *program, int times, uint8_t *addresses)
-{
-    uint64_t count, value;
-    double start = now();
-
-    for (int at = 0; at < times; at++)
-        if (list(program, GALHOVEIA_PROGRAM_BYTES, 0x020 + (uint32_t)at, addresses, GALHOVEIA_PROGRAM_BYTES, &count,
-                 &value)) {
-            printf("a list was not made\n");
-            exit(EXIT_FAILURE);
-        }
-    return (now() - start) / times;
-}
-
 /* ---- The table ---- */
 
-static void line(const char *what, double ours, double second)
+static void heading(void)
 {
-    printf("%-42s %14.0f %14.0f %8.2f\n", what, 1 / ours, 1 / second, second / ours);
+    printf("%-42s %14s %14s %8s", "load (per second)", "galhoveia", "second", "ratio");
+    if (sides > BEFORE)
+        printf(" %14s %10s", "before", "now/before");
+    printf("\n");
+}
+
+static void line(const char *what, const double best[SIDES_MOST])
+{
+    printf("%-42s %14.0f %14.0f %8.2f", what, 1 / best[GALHOVEIA], 1 / best[SECOND], best[SECOND] / best[GALHOVEIA]);
+    if (sides > BEFORE)
+        printf(" %14.0f %10.2f", 1 / best[BEFORE], best[BEFORE] / best[GALHOVEIA]);
+    printf("\n");
     fflush(stdout);
 }
 
@@ -112,60 +51,100 @@ static void least(double *best, double time)
         *best = time;
 }
 
-/* A load on which the two differ would measure nothing. */
-static void same(const char *what, const struct machine *left, const struct machine *right)
+/* A load on which two sides differ would measure nothing. */
+static void same(const char *what, const void *left, const void *right, size_t length)
 {
-    if (memcmp(left, right, sizeof *left) != 0) {
-        printf("%s: the two emulators came to different states\n", what);
+    if (memcmp(left, right, length) != 0) {
+        printf("%s: two sides came to different ends\n", what);
         exit(EXIT_FAILURE);
     }
 }
 
 static void measure_run(const char *what, struct load load, uint8_t mode)
 {
-    double ours = 0, second = 0;
+    double best[SIDES_MOST] = {0};
 
     for (int turn = 0; turn < TURNS; turn++) {
-        struct machine start, left, right;
+        struct machine end[SIDES_MOST];
 
-        fresh(&start);
-        start.record[GALHOVEIA_RECORD_MODE] = mode;
-        left = start;
-        right = start;
-        least(&ours, time_runs(galhoveia_run, load, RUN_EVENTS, 1, &left));
-        least(&second, time_runs(second_run, load, RUN_EVENTS, 1, &right));
-        same(what, &left, &right);
+        for (int at = 0; at < sides; at++) {
+            fresh(&end[at]);
+            end[at].record[GALHOVEIA_RECORD_MODE] = mode;
+            least(&best[at], time_runs(&side[at], load, RUN_EVENTS, 1, &end[at]));
+            same(what, &end[GALHOVEIA], &end[at], sizeof end[at]);
+        }
     }
-    line(what, ours, second);
+    line(what, best);
 }
 
 static void measure_steps(const char *what, struct load load)
 {
-    double ours = 0, second = 0;
+    double best[SIDES_MOST] = {0};
 
     for (int turn = 0; turn < TURNS; turn++) {
-        struct machine left, right;
+        struct machine end[SIDES_MOST];
 
-        fresh(&left);
-        right = left;
-        least(&ours, time_steps(galhoveia_step, load, &left));
-        least(&second, time_steps(second_step, load, &right));
-        same(what, &left, &right);
+        for (int at = 0; at < sides; at++) {
+            fresh(&end[at]);
+            least(&best[at], time_steps(&side[at], load, STEPS, &end[at]));
+            same(what, &end[GALHOVEIA], &end[at], sizeof end[at]);
+        }
     }
-    line(what, ours, second);
+    line(what, best);
 }
 
-static void measure_lists(const char *what, const uint8_t *program)
+/* The second emulator, which is slow at this, makes fewer lists; that of the first cell is compared. */
+static void measure_lists(const char *what, const uint8_t *program, unsigned cells)
 {
-    static uint8_t addresses[GALHOVEIA_PROGRAM_BYTES];
-    double ours = 0, second = 0;
+    static uint8_t list[SIDES_MOST][GALHOVEIA_PROGRAM_BYTES];
+    double best[SIDES_MOST] = {0};
 
-    for (int turn = 0; turn < TURNS; turn++) {
-        least(&ours, time_lists(galhoveia_list, program, LISTS, addresses));
-        least(&second, time_lists(second_list, program, SECOND_LISTS, addresses));
-    }
-    line(what, ours, second);
+    for (int turn = 0; turn < TURNS; turn++)
+        for (int at = 0; at < sides; at++) {
+            least(&best[at], time_lists(&side[at], program, cells, at == SECOND ? SECOND_LISTS : LISTS, list[at]));
+            (void)time_lists(&side[at], program, 1, 1, list[at]);
+            same(what, list[GALHOVEIA], list[at], sizeof list[at]);
+        }
+    line(what, best);
 }
+
+static void measure_levels(const char *what)
+{
+    static const uint8_t body[GALHOVEIA_LEVEL_BYTES] = {0x00, 0x20, 0x00, 0x21, 2};
+    double best[SIDES_MOST] = {0};
+    struct shown shown[SIDES_MOST] = {0};
+    struct machine machine;
+
+    fresh(&machine);
+    machine.memory[0x020] = 4;
+    machine.memory[0x021] = 7;
+    for (int turn = 0; turn < TURNS; turn++)
+        for (int at = 0; at < sides; at++) {
+            least(&best[at], time_levels(&side[at], &machine, body, LEVELS, &shown[at]));
+            same(what, &shown[GALHOVEIA], &shown[at], sizeof shown[at]);
+        }
+    line(what, best);
+}
+
+static void measure_pictures(const char *what)
+{
+    uint8_t wiring[GALHOVEIA_ELEMENT_BYTES * GALHOVEIA_ELEMENTS_MOST];
+    double best[SIDES_MOST] = {0};
+    struct shown shown[SIDES_MOST] = {0};
+    struct machine machine;
+
+    fresh(&machine);
+    machine.memory[0x007] = 4; /* the display is on */
+    full_panel(machine.memory, wiring);
+    for (int turn = 0; turn < TURNS; turn++)
+        for (int at = 0; at < sides; at++) {
+            least(&best[at], time_pictures(&side[at], &machine, wiring, PICTURES, &shown[at]));
+            same(what, &shown[GALHOVEIA], &shown[at], sizeof shown[at]);
+        }
+    line(what, best);
+}
+
+/* ---- How the time grows ---- */
 
 static double time_length(struct load load, size_t length)
 {
@@ -173,7 +152,7 @@ static double time_length(struct load load, size_t length)
     struct machine machine;
 
     fresh(&machine);
-    return time_runs(galhoveia_run, load, length, times, &machine);
+    return time_runs(&side[GALHOVEIA], load, length, times, &machine);
 }
 
 /* Every turn takes all lengths, so that other work on the machine disturbs one as much as another. */
@@ -194,7 +173,7 @@ static void measure_lengths(const char *what, struct load load)
 int main(void)
 {
     static uint8_t nops[GALHOVEIA_PROGRAM_BYTES], mixture[GALHOVEIA_PROGRAM_BYTES], calls[GALHOVEIA_PROGRAM_BYTES],
-        example[GALHOVEIA_PROGRAM_BYTES];
+        example[GALHOVEIA_PROGRAM_BYTES], general[GALHOVEIA_PROGRAM_BYTES], writers[GALHOVEIA_PROGRAM_BYTES];
     static uint8_t cycles[LONGEST], mixture_pins[RUN_EVENTS], calls_pins[RUN_EVENTS], example_keys[RUN_EVENTS];
 
     example_dispatcher(example, example_keys, RUN_EVENTS);
@@ -204,16 +183,22 @@ int main(void)
     some_pins(mixture_pins, RUN_EVENTS, OFTEN);
     calls_and_registers(calls);
     some_pins(calls_pins, RUN_EVENTS, SELDOM);
+    general_words(general);
+    only_writers(writers, 0x020);
 
-    printf("%-42s %14s %14s %8s\n", "load (per second)", "galhoveia", "second", "ratio");
+    heading();
     measure_run("run: NOPs, events", (struct load){nops, cycles}, GALHOVEIA_RUNNING);
     measure_run("run: mixed program, events", (struct load){mixture, cycles}, GALHOVEIA_RUNNING);
     measure_run("run: mixed, a tenth pin events, events", (struct load){mixture, mixture_pins}, GALHOVEIA_RUNNING);
     measure_run("run: calls and registers, events", (struct load){calls, calls_pins}, GALHOVEIA_RUNNING);
     measure_run("run: the example dispatcher, events", (struct load){example, example_keys}, GALHOVEIA_RUNNING);
     measure_run("run: asleep in HALT, events", (struct load){mixture, cycles}, GALHOVEIA_HALT);
+    measure_run("run: general events, events", (struct load){general, cycles}, GALHOVEIA_RUNNING);
     measure_steps("step: mixed program, steps", (struct load){mixture, cycles});
-    measure_lists("list: mixed program, lists", mixture);
+    measure_lists("list: mixed program, lists", mixture, LISTED_CELLS);
+    measure_lists("list: every word names the cell, lists", writers, 1);
+    measure_levels("level, levels");
+    measure_pictures("picture, 240 elements, pictures");
     printf("The second emulator lists by trial, so that its lists tell nothing of speed.\n");
     measure_lengths("run: how the time grows, mixed program: events in a run, ns an event",
                     (struct load){mixture, cycles});

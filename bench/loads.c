@@ -1,26 +1,27 @@
-/* The loads that are measured: programs drawn at random from fixed seeds, their scripts, and the example. */
+/* The loads that are measured: programs drawn at random from fixed seeds, their scripts, and a panel. */
 #include "loads.h"
 
 #include "../desk/galhoveia.h"
-#include "../desk/texts.h"
 
-#include <stdlib.h>
 #include <string.h>
 
 enum {
-    LDA = 7 << 11, ANDIM = 14 << 11, LDI = 15 << 11, CALL = 0xC000, DAA = 0xCB00, DAS = 0xCD00, RTNW = 0xD000,
-    RTNI = 0xD400, JMP = 0xE000, SHR = 0xF000, TJMP = 0xF7FF, NOP = 0xFFFF
+    LDA = 7 << 11, STA = LDA | 1 << 10, ANDIM = 14 << 11, LDI = 15 << 11, CALL = 0xC000, DAA = 0xCB00, DAS = 0xCD00,
+    RTNW = 0xD000, RTNI = 0xD400, JMP = 0xE000, SHR = 0xF000, TJMP = 0xF7FF, NOP = 0xFFFF
 };
 enum {
     IE = 0x000, IRQ = 0x001, TM0 = 0x002, TL0 = 0x004, TH0 = 0x005, PORTA = 0x008, PORTB = 0x009, PORTC = 0x00A,
     PORTD = 0x00B, TBR = 0x00E, INX = 0x00F, DPL = 0x010, DPM = 0x011, DPH = 0x012, PDCR = 0x019, RDT0 = 0x01A,
-    RDT1 = 0x01B, RDT2 = 0x01C, RDT3 = 0x01D
+    RDT1 = 0x01B, RDT2 = 0x01C, RDT3 = 0x01D, WDT = 0x01E
 };
-enum { DATA = 0x020, DATA_CELLS = 0x150, NEAR_DATA_CELLS = 0x60, PAGE = 0x800, PINS = 64 };
+enum {
+    DATA = 0x020, DATA_CELLS = 0x150, NEAR_DATA_CELLS = 0x60, DISPLAY = 0x300, DISPLAY_CELLS = 0x49, PAGE = 0x800,
+    PINS = 64
+};
 
 /* Each program begins its draws anew, so that it does not hang on what was made before it; its script goes on with
    them. */
-enum { MIXED_SEED = 67, CALLS_SEED = 54 };
+enum { MIXED_SEED = 67, CALLS_SEED = 54, PANEL_SEED = 6754 };
 
 static uint32_t seed;
 
@@ -39,6 +40,21 @@ static void put(uint8_t *program, unsigned address, unsigned word)
 void only_nops(uint8_t *program)
 {
     memset(program, 0xFF, GALHOVEIA_PROGRAM_BYTES);
+}
+
+void only_writers(uint8_t *program, unsigned cell)
+{
+    for (unsigned address = 0; address < GALHOVEIA_WORDS; address++)
+        put(program, address, STA | cell);
+}
+
+/* Timer0's count is read and loaded, the watchdog restarted. */
+void general_words(uint8_t *program)
+{
+    static const unsigned words[] = {LDA | TL0, STA | TL0, STA | WDT};
+
+    for (unsigned address = 0; address < GALHOVEIA_WORDS; address++)
+        put(program, address, words[address % (sizeof words / sizeof words[0])]);
 }
 
 /* ---- The mixed program ---- */
@@ -210,38 +226,15 @@ void some_pins(uint8_t *script, size_t events, size_t every)
         script[at] = (uint8_t)(GALHOVEIA_EVENT_PINS_A + any(PINS));
 }
 
-/* ---- The example ---- */
+/* ---- A panel ---- */
 
-static const char example_book[] = "examples/dispatcher.book", example_script[] = "examples/dispatcher.script";
-
-enum { EXAMPLE_FILE_MOST = 1 << 16 };
-
-static void read_example_program(uint8_t *program)
+void full_panel(uint8_t *memory, uint8_t *wiring)
 {
-    struct bytes book = read_file(example_book, EXAMPLE_FILE_MOST);
-    uint64_t at, length, wiring, wiring_length, level, level_length, value;
-
-    if (galhoveia_book_read(book.at, book.length, &at, &length, &wiring, &wiring_length, &level, &level_length, &value))
-        fail("%s is no good book (desk book check tells why)", example_book);
-    memcpy(program, book.at + at, GALHOVEIA_PROGRAM_BYTES);
-    free(book.at);
-}
-
-static void read_example_script(uint8_t *script, size_t events)
-{
-    struct bytes text = read_file(example_script, EXAMPLE_FILE_MOST);
-    struct bytes once = script_from_text(example_script, (const char *)text.at);
-
-    if (once.length == 0)
-        fail("%s has no events", example_script);
-    for (size_t at = 0; at < events; at++)
-        script[at] = once.at[at % once.length];
-    free(once.at);
-    free(text.at);
-}
-
-void example_dispatcher(uint8_t *program, uint8_t *script, size_t events)
-{
-    read_example_program(program);
-    read_example_script(script, events);
+    seed = PANEL_SEED;
+    for (unsigned cell = DISPLAY; cell < DISPLAY + DISPLAY_CELLS; cell++)
+        memory[cell] = (uint8_t)any(16);
+    for (unsigned element = 0; element < GALHOVEIA_ELEMENTS_MOST; element++) {
+        put(wiring + GALHOVEIA_ELEMENT_BYTES * element, 0, DISPLAY + any(DISPLAY_CELLS));
+        wiring[GALHOVEIA_ELEMENT_BYTES * element + 2] = (uint8_t)any(4);
+    }
 }

@@ -7,6 +7,8 @@
 
 /* Each program is written whole, GALHOVEIA_PROGRAM_BYTES long. */
 void only_nops(uint8_t *program);
+void only_writers(uint8_t *program, unsigned cell); /* every word stores to the cell */
+void general_words(uint8_t *program);               /* every word needs the general event */
 void mixed(uint8_t *program);
 void calls_and_registers(uint8_t *program);
 
@@ -14,6 +16,9 @@ void only_cycles(uint8_t *script, size_t events);
 
 /* Cycles, and at every so many events one that gives a port new pins. */
 void some_pins(uint8_t *script, size_t events, size_t every);
+
+/* A wiring of GALHOVEIA_ELEMENTS_MOST elements, and something in the display cells of a memory. */
+void full_panel(uint8_t *memory, uint8_t *wiring);
 
 /* The program of the example's book, and its script again and again. A file that cannot be read is told, and ends the
    bench. */

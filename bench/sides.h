@@ -1,0 +1,23 @@
+/* What is measured side by side: galhoveia, the second emulator and, where one is given, an earlier galhoveia. */
+#ifndef BENCH_SIDES_H
+#define BENCH_SIDES_H
+
+#include <stddef.h>
+#include <stdint.h>
+
+enum { GALHOVEIA, SECOND, BEFORE, SIDES_MOST };
+
+struct side {
+    uint32_t (*run)(const uint8_t *, size_t, uint8_t *, size_t, uint8_t *, size_t, const uint8_t *, size_t, uint32_t,
+                    uint32_t *, uint64_t *, uint64_t *);
+    uint32_t (*step)(const uint8_t *, size_t, uint8_t *, size_t, uint8_t *, size_t, uint8_t, uint64_t *);
+    uint32_t (*list)(const uint8_t *, size_t, uint32_t, uint8_t *, size_t, uint64_t *, uint64_t *);
+    uint32_t (*level)(const uint8_t *, size_t, const uint8_t *, size_t, int32_t *, uint64_t *);
+    uint32_t (*picture)(const uint8_t *, size_t, const uint8_t *, size_t, const uint8_t *, size_t, uint8_t *, size_t,
+                        uint64_t *, uint64_t *);
+};
+
+extern const struct side side[SIDES_MOST];
+extern const int sides; /* BEFORE is among them, or not */
+
+#endif

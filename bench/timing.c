@@ -1,0 +1,94 @@
+/* Timing, by processor time, so that other work on the machine counts as little as possible. */
+#define _POSIX_C_SOURCE 199309L
+#include "timing.h"
+
+#include <stdio.h>
+#include <stdlib.h>
+#include <string.h>
+#include <time.h>
+
+static double now(void)
+{
+    struct timespec time;
+
+    clock_gettime(CLOCK_PROCESS_CPUTIME_ID, &time);
+    return (double)time.tv_sec + 1e-9 * (double)time.tv_nsec;
+}
+
+static void must(int done, const char *what)
+{
+    if (!done) {
+        printf("%s was not done\n", what);
+        exit(EXIT_FAILURE);
+    }
+}
+
+double time_runs(const struct side *side, struct load load, size_t length, size_t times, struct machine *machine)
+{
+    uint32_t reason;
+    uint64_t events, value;
+    double start = now();
+
+    for (size_t at = 0; at < times; at++)
+        must(side->run(load.program, GALHOVEIA_PROGRAM_BYTES, machine->memory, sizeof machine->memory, machine->record,
+                       sizeof machine->record, load.script, length, GALHOVEIA_NO_STOP, &reason, &events, &value) == 0
+                 && events == length,
+             "a run");
+    return (now() - start) / (double)(length * times);
+}
+
+double time_steps(const struct side *side, struct load load, size_t times, struct machine *machine)
+{
+    uint64_t value;
+    double start = now();
+
+    for (size_t at = 0; at < times; at++)
+        must(side->step(load.program, GALHOVEIA_PROGRAM_BYTES, machine->memory, sizeof machine->memory, machine->record,
+                        sizeof machine->record, load.script[at], &value) == 0,
+             "a step");
+    return (now() - start) / (double)times;
+}
+
+double time_lists(const struct side *side, const uint8_t *program, unsigned cells, size_t times,
+                  uint8_t addresses[GALHOVEIA_PROGRAM_BYTES])
+{
+    uint64_t count = 0, value;
+    double start = now(), time;
+
+    for (size_t at = 0; at < times; at++)
+        must(side->list(program, GALHOVEIA_PROGRAM_BYTES, 0x020 + (uint32_t)(at % cells), addresses,
+                        GALHOVEIA_PROGRAM_BYTES, &count, &value) == 0,
+             "a list");
+    time = (now() - start) / (double)times;
+    memset(addresses + count, 0, GALHOVEIA_PROGRAM_BYTES - count);
+    return time;
+}
+
+double time_levels(const struct side *side, const struct machine *machine, const uint8_t *body, size_t times,
+                   struct shown *shown)
+{
+    uint64_t value;
+    double start = now();
+
+    for (size_t at = 0; at < times; at++)
+        must(side->level(machine->memory, sizeof machine->memory, body, GALHOVEIA_LEVEL_BYTES, &shown->level, &value)
+                 == 0,
+             "a level");
+    return (now() - start) / (double)times;
+}
+
+double time_pictures(const struct side *side, const struct machine *machine, const uint8_t *wiring, size_t times,
+                     struct shown *shown)
+{
+    uint64_t count, value;
+    double start = now();
+
+    for (size_t at = 0; at < times; at++)
+        must(side->picture(machine->memory, sizeof machine->memory, machine->record, sizeof machine->record, wiring,
+                           GALHOVEIA_ELEMENT_BYTES * GALHOVEIA_ELEMENTS_MOST, shown->picture, sizeof shown->picture,
+                           &count, &value)
+                     == 0
+                 && count == GALHOVEIA_ELEMENTS_MOST,
+             "a picture");
+    return (now() - start) / (double)times;
+}
