@@ -30,7 +30,10 @@ for crate in crates/*/; do
             head && /\{[ \t]*$/ { print fn, has; head = 0 }' "$file")
     done
     for row in $(printf '%s\n' "$section" | sed -n 's/^| `\([A-Za-z0-9_:]*\)` | [^`].*/\1/p'); do
-        if grep -qE "^[ \t]*pub (extern \"C\" )?fn ${row##*::}\(" "$crate"src/*.rt; then holds; else fails "$name: $row has a row in docs/STATEMENTS.md and is no public function"; fi
+        # a path begins with its module, and is of the crate's root where it has none
+        module=$crate/src/${row%%::*}.rt
+        [ -e "$module" ] || module=$crate/src/lib.rt
+        if grep -qE "^[ \t]*pub (extern \"C\" )?fn ${row##*::}\(" "$module"; then holds; else fails "$name: $row has a row in docs/STATEMENTS.md and is no public function there"; fi
     done
     for edit in $(edits_of "$name"); do
         # wrong answers that are tried together are told apart by where they are refused
