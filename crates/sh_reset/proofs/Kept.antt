@@ -46,11 +46,11 @@ unfolding setsOf heldOf heldIn kindOf registerBits
 sets-held c o a = by-eq (λ v. bitAnd v (heldOf a) ≡ v) a 0x0C _ _ (λ e. rw e (nibble-within _ _ (omega arith) refl)) (λ n. rises-held c a)
 
 module _ (c : Column) (o : ℕ) {l : List ℕ} (f : MemoryFit l) where
-  reset-at : (a : ℕ) → a < 1024 → at (resetMemoryOf c o l) a ≡ resetCellOf c o a (at l a)
+  pub reset-at : (a : ℕ) → a < 1024 → at (resetMemoryOf c o l) a ≡ resetCellOf c o a (at l a)
   unfolding resetMemoryOf
   reset-at a h = map-at (resetCellOf c o) l 0 a (rw (f .size) h) ∙ rw zero-add
 
-  reset-size : length (resetMemoryOf c o l) ≡ 1024
+  pub reset-size : length (resetMemoryOf c o l) ≡ 1024
   unfolding resetMemoryOf
   reset-size = map-length (resetCellOf c o) l 0 ∙ f .size
 
