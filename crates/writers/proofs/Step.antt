@@ -41,7 +41,7 @@ module _ (c : ℕ) (h : 0x20 ≤ c) where
   below-stays : (l : List ℕ) (a v : ℕ) → a ≤ 0x1F → at (set l a v) c ≡ at l c
   below-stays l a v k = getD-set-other l a c v 0 (omega arith)
 
-  requested-stays : (l : List ℕ) (bits : ℕ) → at (requestedOf l bits) c ≡ at l c
+  pub requested-stays : (l : List ℕ) (bits : ℕ) → at (requestedOf l bits) c ≡ at l c
   unfolding requestedOf
   requested-stays l bits = below-stays l 0x01 (bitOr (at l 0x01) bits) (omega arith)
 
@@ -56,7 +56,7 @@ module _ (c : ℕ) (h : 0x20 ≤ c) where
       ∙ (below-stays l1 0x1B (w / 16 % 16) (omega arith) ∙ below-stays l 0x1A (w % 16) (omega arith)))
 
   -- (d) and (e)
-  finished-stays : (p : List ℕ) (start : Machine) (s : State) → at (finishedOf p start s .memory) c ≡ at (s .memory) c
+  pub finished-stays : (p : List ℕ) (start : Machine) (s : State) → at (finishedOf p start s .memory) c ≡ at (s .memory) c
   unfolding finishedOf clockOf landedOf
   finished-stays p start s =
       requested-stays (landedOf p start (s .memory)) _

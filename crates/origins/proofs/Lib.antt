@@ -1,0 +1,5 @@
+pub mod Leaves
+pub mod Event
+pub mod Run
+pub mod Calls
+pub mod Host
