@@ -21,6 +21,7 @@ endif
 
 EVENTS = 20000000
 SANITIZED_EVENTS = 1000000
+BOOK = examples/dispatcher.book
 
 # The proved library. Another archive with the same calls can be tested by make LIB=...
 LIB = target/staticlib/libhost.a
@@ -130,6 +131,9 @@ build/plain/header-cpp: build/plain/objects/tests/header-cpp.o $(LIB)
 build/native/trials: $(patsubst %.c,build/native/objects/%.o,$(TRIALS) $(SECOND))
 	$(CC) -o $@ $^
 
+build/native/forgetful: $(patsubst %.c,build/native/objects/%.o,$(DESK) tests/forgetful.c tests/standin.c $(SECOND))
+	$(CC) -Wl,--wrap=galhoveia_list -o $@ $^
+
 build/native/text: $(patsubst %.c,build/native/objects/%.o,$(TEXT) second/instruction.c)
 	$(CC) -o $@ $^
 
@@ -144,18 +148,19 @@ build/sanitized/text: $(patsubst %.c,build/sanitized/objects/%.o,$(TEXT) second/
 
 # ---- Tests ----
 
-test: build/plain/header build/plain/header-cpp build/plain/desk build/plain/compare build/native/text build/native/trials
+test: build/plain/header build/plain/header-cpp build/plain/desk build/plain/compare build/native/text build/native/trials \
+    build/native/forgetful
 	@tests/all.sh tests/newcomer.sh "tests/header.sh $(CC) $(CXX)" build/plain/header build/plain/header-cpp \
-	    build/native/text "tests/desk.sh build/plain/desk" "build/native/trials build/trials" \
-	    "tests/beside.sh 'build/plain/compare calls --trials build/trials' 'build/plain/compare runs --events $(EVENTS)'"
+	    build/native/text "tests/desk.sh build/plain/desk build/native/forgetful" "build/native/trials build/trials" \
+	    "tests/beside.sh 'build/plain/compare calls --trials build/trials' 'build/plain/compare runs --book $(BOOK) --events $(EVENTS)'"
 
 # A finding ends with 99, which no command of the desk does. Leaks are not looked for: every command would take seconds
 # to end, and none lives long.
-test-sanitized: build/sanitized/desk build/sanitized/compare build/sanitized/text build/native/trials
-	@ASAN_OPTIONS=detect_leaks=0:exitcode=99 UBSAN_OPTIONS=exitcode=99 tests/all.sh build/sanitized/text "tests/desk.sh build/sanitized/desk" \
+test-sanitized: build/sanitized/desk build/sanitized/compare build/sanitized/text build/native/trials build/native/forgetful
+	@ASAN_OPTIONS=detect_leaks=0:exitcode=99 UBSAN_OPTIONS=exitcode=99 tests/all.sh build/sanitized/text "tests/desk.sh build/sanitized/desk build/native/forgetful" \
 	    "build/native/trials build/trials" \
 	    "tests/clean.sh build/sanitized/compare calls --trials build/trials --machines 2 --cell-stride 200" \
-	    "tests/clean.sh build/sanitized/compare runs --events $(SANITIZED_EVENTS)"
+	    "tests/clean.sh build/sanitized/compare runs --book $(BOOK) --events $(SANITIZED_EVENTS) --cell-stride 20"
 
 wrong:
 	@tests/wrong.sh $(CRATE)

@@ -3,6 +3,7 @@
 #include "panel.h"
 #include "refusal.h"
 #include "texts.h"
+#include "watch.h"
 
 #include <stdio.h>
 #include <stdlib.h>
@@ -159,16 +160,19 @@ static struct look look_from(const struct command *command, bool raw, const char
 static enum status work_run(const struct command *command, int count, char **words)
 {
     const char *others[2], *stop = NULL, *from = NULL, *save = NULL, *options = NULL, *digits = "0", *columns = NULL;
-    bool force = false, raw_script = false, show = false;
+    const char *cell = NULL;
+    bool force = false, raw_script = false, show = false, level = false;
     const struct option known[] = {{"--stop", &stop, NULL},     {"--state", &from, NULL},
                                    {"--save", &save, NULL},     {"--options", &options, NULL},
                                    {"--digits", &digits, NULL}, {"--columns", &columns, NULL},
+                                   {"--watch", &cell, NULL},    {"--watch-level", NULL, &level},
                                    {"--force", NULL, &force},   {"--raw-script", NULL, &raw_script},
                                    {"--show", NULL, &show},     {NULL, NULL, NULL}};
-    uint32_t stop_address = GALHOVEIA_NO_STOP, refusal, reason;
+    uint32_t stop_address = GALHOVEIA_NO_STOP, cell_address = 0, refusal, reason;
+    struct watch watch = {.count = 0};
     struct look look;
     struct book book;
-    struct state state;
+    struct state state, start;
     struct bytes script;
     uint64_t done;
     enum status status = DONE;
@@ -177,6 +181,8 @@ static enum status work_run(const struct command *command, int count, char **wor
     look = look_from(command, false, digits, columns);
     if (stop != NULL)
         stop_address = hex_from(command, stop);
+    if (cell != NULL)
+        cell_address = hex_from(command, cell);
     if (from != NULL && options != NULL)
         wrong_use(command, "--options is for a fresh machine, so not with", "--state");
     if (save != NULL)
@@ -195,15 +201,25 @@ static enum status work_run(const struct command *command, int count, char **wor
     }
     if (show)
         may_draw(&book, look);
+    if ((level && !watch_level(&watch, &book)) || (cell != NULL && !watch_cell(&watch, &book, cell_address, ""))) {
+        free(script.at);
+        free(book.file.at);
+        return REFUSED;
+    }
+    start = state;
     refusal = run_events(&book, &state, script.at, script.length, stop_address, &reason, &done);
     status = refusal == GALHOVEIA_DONE ? DONE : REFUSED;
     if (refusal == GALHOVEIA_DONE || refusal == GALHOVEIA_UNLISTED_WORD) {
+        bool faultless = watch.count == 0 || show_changes(&watch, &book, &start, script.at, done, &state);
+
         if (save != NULL) {
             write_state(save, &state, force);
             printf("state saved in %s\n", save);
         }
         if (show && !(show_picture(&book, &state, "the picture", look) && show_level(&book, &state, "the level")))
             status = REFUSED;
+        if (!faultless)
+            status = FAULT;
     }
     free(script.at);
     free(book.file.at);
@@ -334,28 +350,43 @@ static char *path_in(const char *folder, const char *file)
     return path;
 }
 
-static bool demo_run(const struct book *book, struct bytes script)
+/* Lets the script's events happen to a fresh chip. Answers whether all went well, with the chip before and after. */
+static bool demo_run(const struct book *book, struct bytes script, struct state *start, struct state *state)
 {
     const struct look look = {false, DEMO_DIGITS, COLUMNS_USUAL};
     uint32_t reason = GALHOVEIA_AT_ADDRESS;
-    struct state state;
     size_t at = 0;
 
-    if (!make_fresh(&state, 0))
+    if (!make_fresh(start, 0))
         return false;
+    *state = *start;
     while (reason == GALHOVEIA_AT_ADDRESS) {
         uint64_t done;
 
-        if (run_events(book, &state, script.at + at, script.length - at, DEMO_STOP, &reason, &done) != GALHOVEIA_DONE)
+        if (run_events(book, state, script.at + at, script.length - at, DEMO_STOP, &reason, &done) != GALHOVEIA_DONE)
             return false;
         at += (size_t)done;
         if (reason != GALHOVEIA_AT_ADDRESS)
             break;
-        if (!show_picture(book, &state, "the picture", look) || !show_level(book, &state, "the level"))
+        if (!show_picture(book, state, "the picture", look) || !show_level(book, state, "the level"))
             return false;
         printf("\n");
     }
     return true;
+}
+
+static enum status demo_of(const struct book *book, struct bytes script)
+{
+    struct state start, end;
+    struct watch watch = {.count = 0};
+
+    if (!demo_run(book, script, &start, &end))
+        return REFUSED;
+    printf("\n3. Who can write the level cells: these instructions and no others\n\n");
+    if (!show_level_writers(book) || !watch_level(&watch, book))
+        return REFUSED;
+    printf("\n4. Who did write them in this run\n\n");
+    return show_changes(&watch, book, &start, script.at, script.length, &end) ? DONE : FAULT;
 }
 
 static enum status work_demo(const struct command *command, int count, char **words)
@@ -365,28 +396,25 @@ static enum status work_demo(const struct command *command, int count, char **wo
     struct book book;
     struct bytes script;
     char *book_path, *script_path;
-    bool done;
+    enum status status = REFUSED;
 
     if (count > 0)
         take_words(command, count, words, known, folder, 1);
     book_path = path_in(folder[0], "dispatcher.book");
     script_path = path_in(folder[0], "dispatcher.script");
     script = read_text(script_path, SCRIPT_FILE_MOST, script_from_text);
-    done = read_book(book_path, &book);
-    if (done) {
+    if (read_book(book_path, &book)) {
         printf("1. The book\n\n");
         show_book(book_path, &book);
         printf("\n2. The script %s, shown whenever the program waits for a call (stop at $%03X):\n   once it is ready, "
                "then after a call below the ground stop, then after one above it\n\n", script_path, DEMO_STOP);
-        done = demo_run(&book, script);
-        printf("\n3. Who can write the level cells: these instructions and no others\n\n");
-        done = done && show_level_writers(&book);
+        status = demo_of(&book, script);
         free(book.file.at);
     }
     free(script.at);
     free(book_path);
     free(script_path);
-    return done ? DONE : REFUSED;
+    return status;
 }
 
 /* ---- Help ---- */
@@ -403,11 +431,15 @@ static const struct command commands[] = {
      "N is 0 to 7: 1 watchdog on, 2 bonding bit BD0, 4 bonding bit BD1, added up; 0 if not given.\n"
      "A state file is the memory (1,024 bytes), then the record (37 bytes).\n", NULL, work_fresh},
     {"run", "run BOOK SCRIPT [--stop HEX] [--state FILE | --options N] [--save FILE] [--force]\n"
-            "                [--raw-script] [--show [--digits N] [--columns N]]",
+            "                [--raw-script] [--show [--digits N] [--columns N]] [--watch CELL] [--watch-level]",
      "lets a script's events happen to a book's chip",
      "The chip is fresh, or as in the state FILE. --stop ends the run after a cycle that leaves PC at HEX. --save writes\n"
      "the state after the run, also after one that stopped before a word that is no instruction (refusal 6). --show\n"
-     "shows picture and level after it, drawn as desk picture --help tells.\n", run_texts, work_run},
+     "shows picture and level after it, drawn as desk picture --help tells.\n"
+     "--watch tells each change of a cell during the run: the event's number, counted from 0, the cell before and after\n"
+     "it, and the instruction that did it; then how many of the cell's writers (desk writers) changed it, and which\n"
+     "never did. CELL is in hex: a data, display or scan cell. --watch-level watches both digits of the level.\n",
+     run_texts, work_run},
     {"level", "level BOOK STATE", "tells the level that a state's panel stands at", state_help, NULL, work_level},
     {"picture", "picture BOOK STATE [--digits N] [--columns N] [--raw]", "draws what a state's panel shows",
      "# is lit, . is dark, in the order of the wiring. With --digits N the first 7N elements are drawn as N\n"
@@ -430,7 +462,8 @@ static void print_overview(FILE *to)
         fprintf(to, "  desk %s\n      %s\n", commands[at].usage, commands[at].about);
     fprintf(to, "\ndesk COMMAND --help tells more of one. No file is written over unless --force is given.\n"
                 "Exit status: 0 done; 1 refused by the library, which is said with its number and value; 2 wrong use,\n"
-                "or a file that cannot be read, is in the way, or is not what it should be.\n");
+                "or a file that cannot be read, is in the way, or is not what it should be; 3 a fault of the library,\n"
+                "which a watched run and the demo look for.\n");
 }
 
 static void print_help(const struct command *command)

@@ -7,7 +7,7 @@
 #include <stddef.h>
 #include <stdint.h>
 
-enum status { DONE = 0, REFUSED = 1, WRONG_USE = 2 };
+enum status { DONE = 0, REFUSED = 1, WRONG_USE = 2, FAULT = 3 };
 
 struct bytes {
     uint8_t *at;

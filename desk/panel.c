@@ -66,10 +66,17 @@ bool make_fresh(struct state *state, uint32_t options)
 
 /* ---- What is shown ---- */
 
-static unsigned two(const uint8_t *bytes)
+unsigned two(const uint8_t *bytes)
 {
     return (unsigned)bytes[0] << 8 | bytes[1];
 }
+
+unsigned level_cell(const struct book *book, enum digit digit)
+{
+    return two(book->level.at + 2 * digit);
+}
+
+const char *const digit_meaning[DIGITS] = {" (high digit of the level)", " (low digit of the level)"};
 
 bool show_level(const struct book *book, const struct state *state, const char *state_name)
 {
@@ -83,8 +90,8 @@ bool show_level(const struct book *book, const struct state *state, const char *
         say_refusal(state_name, refusal, value);
         return false;
     }
-    high = state->memory[two(book->level.at)];
-    low = state->memory[two(book->level.at + 2)];
+    high = state->memory[level_cell(book, HIGH)];
+    low = state->memory[level_cell(book, LOW)];
     printf("level %ld  (digits %u,%u; ground code %u)\n", (long)level, high, low, book->level.at[4]);
     return true;
 }
@@ -126,9 +133,9 @@ void show_registers(const struct state *state)
            record[GALHOVEIA_RECORD_CY], modes[record[GALHOVEIA_RECORD_MODE]]);
 }
 
-bool show_writers(const struct book *book, uint32_t cell, const char *meaning)
+bool ask_writers(const struct book *book, uint32_t cell, struct writers *writers)
 {
-    static uint8_t addresses[GALHOVEIA_PROGRAM_BYTES];
+    uint8_t addresses[GALHOVEIA_PROGRAM_BYTES];
     uint64_t count = 0, value = 0;
     uint32_t refusal = galhoveia_list(book->program.at, book->program.length, cell, addresses, sizeof addresses,
                                       &count, &value);
@@ -137,24 +144,43 @@ bool show_writers(const struct book *book, uint32_t cell, const char *meaning)
         say_refusal("the list of writers", refusal, value);
         return false;
     }
-    printf("cell $%03lX%s: %llu instruction%s can change it\n", (unsigned long)cell, meaning,
-           (unsigned long long)(count / 2), count == 2 ? "" : "s");
-    for (uint64_t at = 0; at < count; at += 2) {
-        unsigned address = two(addresses + at);
-        uint16_t word = (uint16_t)two(book->program.at + 2 * address);
-        char text[LISTING_ROOM];
+    writers->count = (size_t)(count / 2);
+    for (size_t at = 0; at < writers->count; at++)
+        writers->address[at] = (uint16_t)two(addresses + 2 * at);
+    return true;
+}
 
-        instruction_text(word, text);
-        printf("  $%03X  %04X  %s%s\n", address, word, text,
-               goes_through_pointer(word) ? "  ; wherever the pointer $012, $011, $010 stands" : "");
+void show_instruction(const struct book *book, unsigned address)
+{
+    uint16_t word = (uint16_t)two(book->program.at + 2 * address);
+    char text[LISTING_ROOM];
+
+    instruction_text(word, text);
+    printf("$%03X  %04X  %s%s\n", address, word, text,
+           goes_through_pointer(word) ? "  ; wherever the pointer $012, $011, $010 stands" : "");
+}
+
+bool show_writers(const struct book *book, uint32_t cell, const char *meaning)
+{
+    struct writers writers;
+
+    if (!ask_writers(book, cell, &writers))
+        return false;
+    printf("cell $%03lX%s: %zu instruction%s can change it\n", (unsigned long)cell, meaning, writers.count,
+           writers.count == 1 ? "" : "s");
+    for (size_t at = 0; at < writers.count; at++) {
+        printf("  ");
+        show_instruction(book, writers.address[at]);
     }
     return true;
 }
 
 bool show_level_writers(const struct book *book)
 {
-    return show_writers(book, two(book->level.at), " (high digit of the level)")
-           && show_writers(book, two(book->level.at + 2), " (low digit of the level)");
+    for (enum digit digit = HIGH; digit < DIGITS; digit++)
+        if (!show_writers(book, level_cell(book, digit), digit_meaning[digit]))
+            return false;
+    return true;
 }
 
 void show_book(const char *path, const struct book *book)
@@ -170,6 +196,6 @@ void show_book(const char *path, const struct book *book)
     printf("%s is a good book of %zu bytes\n", path, book->file.length);
     printf("  program: %d words, of these %u NOP and %u that are no instruction\n", GALHOVEIA_WORDS, blank, unlisted);
     printf("  wiring: %zu elements\n", book->wiring.length / GALHOVEIA_ELEMENT_BYTES);
-    printf("  level: high digit in $%03X, low digit in $%03X, ground code %u\n", two(book->level.at),
-           two(book->level.at + 2), book->level.at[4]);
+    printf("  level: high digit in $%03X, low digit in $%03X, ground code %u\n", level_cell(book, HIGH),
+           level_cell(book, LOW), book->level.at[4]);
 }

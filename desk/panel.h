@@ -7,6 +7,9 @@
 
 enum { FILE_MOST = 1 << 20, SCRIPT_FILE_MOST = 1 << 30 };
 
+/* The number in two bytes, high byte first. */
+unsigned two(const uint8_t *bytes);
+
 struct state {
     uint8_t memory[GALHOVEIA_MEMORY_BYTES];
     uint8_t record[GALHOVEIA_RECORD_BYTES];
@@ -24,6 +27,20 @@ struct book {
 bool read_book(const char *path, struct book *book);
 bool make_fresh(struct state *state, uint32_t options);
 
+/* The level's digits, the cell of each, and what is said behind that cell's number. */
+enum digit { HIGH, LOW, DIGITS };
+
+unsigned level_cell(const struct book *book, enum digit digit);
+extern const char *const digit_meaning[DIGITS];
+
+/* The addresses of the instructions that can change a cell, ascending; a refusal is said. */
+struct writers {
+    uint16_t address[GALHOVEIA_WORDS];
+    size_t count;
+};
+
+bool ask_writers(const struct book *book, uint32_t cell, struct writers *writers);
+
 /* How a picture is drawn. */
 struct look {
     bool raw;
@@ -37,6 +54,9 @@ bool show_picture(const struct book *book, const struct state *state, const char
 bool show_level(const struct book *book, const struct state *state, const char *state_name);
 bool show_writers(const struct book *book, uint32_t cell, const char *meaning);
 bool show_level_writers(const struct book *book);
+
+/* The rest of a line: address, word and text of the instruction there. */
+void show_instruction(const struct book *book, unsigned address);
 
 void show_book(const char *path, const struct book *book);
 void show_registers(const struct state *state);

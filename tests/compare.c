@@ -1,6 +1,7 @@
 /* Compares galhoveia with the second emulator over the C boundary: answers, values, and every lent byte. Two parts, so
-   that they can run side by side: `calls` has every word, refusal, panel and list, `runs` the random events and the
-   quiet stretches. Prints its progress and, as its last line, how many comparisons passed and failed. */
+   that they can run side by side: `calls` has every word, refusal, panel and list, `runs` the random events, the quiet
+   stretches, and what single steps change. Prints its progress and, as its last line, how many comparisons passed and
+   failed. */
 #include "compare.h"
 #include "support.h"
 
@@ -44,7 +45,7 @@ static void check_reached(void)
 static void usage(void)
 {
     fprintf(stderr, "usage: compare calls --trials FILE [--machines N] [--cell-stride N] [--seed N]\n"
-                    "       compare runs [--events N] [--seed N]\n");
+                    "       compare runs --book FILE [--events N] [--cell-stride N] [--seed N]\n");
     exit(2);
 }
 
@@ -68,7 +69,7 @@ static double seconds_since(const struct timespec *start)
 
 int main(int argc, char **argv)
 {
-    struct plan plan = {20000000, 8, 1, NULL};
+    struct plan plan = {20000000, 8, 1, NULL, NULL};
     uint64_t seed = 6754;
     struct timespec start;
     bool calls = argc > 1 && strcmp(argv[1], "calls") == 0, runs = argc > 1 && strcmp(argv[1], "runs") == 0;
@@ -78,9 +79,11 @@ int main(int argc, char **argv)
             usage();
         if (runs && strcmp(argv[at], "--events") == 0)
             plan.events = number_of(argv[at + 1]);
+        else if (runs && strcmp(argv[at], "--book") == 0)
+            plan.book = argv[at + 1];
         else if (calls && strcmp(argv[at], "--machines") == 0)
             plan.machines = (unsigned)number_of(argv[at + 1]);
-        else if (calls && strcmp(argv[at], "--cell-stride") == 0)
+        else if (strcmp(argv[at], "--cell-stride") == 0)
             plan.cell_stride = (unsigned)number_of(argv[at + 1]);
         else if (calls && strcmp(argv[at], "--trials") == 0)
             plan.trials = argv[at + 1];
@@ -89,7 +92,7 @@ int main(int argc, char **argv)
         else
             usage();
     }
-    if (calls ? plan.trials == NULL : !runs)
+    if (calls ? plan.trials == NULL : !runs || plan.book == NULL)
         usage();
     timespec_get(&start, TIME_UTC);
     seed_random(seed);
@@ -105,6 +108,8 @@ int main(int argc, char **argv)
     } else {
         compare_runs(&plan);
         compare_stretches(&plan);
+        progress("  (runs: %.1f s)", seconds_since(&start));
+        compare_changes(&plan);
     }
     progress("  (%s: %.1f s)", argv[1], seconds_since(&start));
     printf("%lu passed, %lu failed\n", passed, failed);

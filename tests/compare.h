@@ -5,15 +5,17 @@
 #include <stdint.h>
 
 struct plan {
-    uint64_t events;      /* at least so many in random runs, and a fifth of them in quiet stretches */
+    uint64_t events;      /* at least so many in random runs, a fifth of them in quiet stretches, a tenth by steps */
     unsigned machines;    /* for each of the 65,536 words */
-    unsigned cell_stride; /* the lists of every so many askable cells are asked for; 1 for all */
+    unsigned cell_stride; /* the lists of one in so many cells are asked for; 1 for all */
     const char *trials;   /* the file that the program trials wrote */
+    const char *book;     /* the example dispatcher's */
 };
 
 void compare_words(const struct plan *plan);
 void compare_runs(const struct plan *plan);
 void compare_stretches(const struct plan *plan);
+void compare_changes(const struct plan *plan);
 void compare_refusals(void);
 void compare_lists(const struct plan *plan);
 void compare_panel(void);

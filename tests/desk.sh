@@ -1,6 +1,8 @@
 #!/bin/sh
-# Tests of the desk command: desk.sh PATH-OF-DESK, from the repository's folder. Works in a folder of its own.
+# Tests of the desk command: desk.sh PATH-OF-DESK PATH-OF-FORGETFUL-DESK (forgetful.c), from the repository's folder.
+# Works in a folder of its own.
 desk=$(realpath "$1") || exit 2
+forgetful=$(realpath "$2") || exit 2
 examples=$(realpath examples) || exit 2
 work=$(mktemp -d) || exit 2
 trap 'rm -rf "$work"' EXIT
@@ -98,6 +100,10 @@ says err 'not a hex number'
 ends 2 run "$book" "$script" --stop 100000000
 ends 2 writers "$book" zz
 says err 'not a hex number'
+ends 2 run "$book" "$script" --watch
+says err 'a value is due after --watch'
+ends 2 run "$book" "$script" --watch zz
+says err 'not a hex number'
 
 echo "desk: demo"
 ends 0 demo "$examples"
@@ -106,6 +112,8 @@ says out 'level -1  (digits 0,1; ground code 2)'
 says out 'level 6  (digits 1,0; ground code 2)'
 says out '$01E  3C20  STA $020'
 says out "stopped at the script's end"
+says out '  event 233: $020 0 -> 1  by  $01E  3C20  STA $020'
+says out 'cell $021 (low digit of the level): 3 changes; of 4 instructions that can change it 2 did, and these never:'
 ends 2 demo nowhere
 says err 'cannot read nowhere/dispatcher.script'
 (cd "$examples/.." && "$desk" demo >/dev/null 2>&1) && ok || wrong "desk demo without a folder"
@@ -306,6 +314,86 @@ ends 0 writers twelve.book 020
 says out 'cell $020: 2 instructions'
 says out '  $011  48A0  ADIM $020, 1'
 says out '  $012  3C0F  STA $00F'
+
+echo "desk: watched cells"
+# Which instructions moved the level: neither STA $00F did, since the pointer stands at the display.
+cat >wanted <<'END'
+348 of 348 events done; stopped at the script's end
+PC $011, AC 8, CY 1, asleep in HALT
+changes, with events counted from 0:
+  event 5: $021 0 -> 2  by  $016  7921  LDI $021, 2
+  event 113: $021 2 -> 1  by  $022  3C21  STA $021
+  event 233: $020 0 -> 1  by  $01E  3C20  STA $020
+  event 237: $021 1 -> 0  by  $022  3C21  STA $021
+cell $020 (high digit of the level): 1 change; of 4 instructions that can change it 1 did, and these never:
+  $015  7820  LDI $020, 0
+  $040  3C0F  STA $00F  ; wherever the pointer $012, $011, $010 stands
+  $043  3C0F  STA $00F  ; wherever the pointer $012, $011, $010 stands
+cell $021 (low digit of the level): 3 changes; of 4 instructions that can change it 2 did, and these never:
+  $040  3C0F  STA $00F  ; wherever the pointer $012, $011, $010 stands
+  $043  3C0F  STA $00F  ; wherever the pointer $012, $011, $010 stands
+END
+ends 0 run "$book" "$script" --watch-level
+same out wanted
+quiet
+ends 0 run "$book" "$script" --watch 20 --watch-level
+same out wanted
+# Beside it the output is that of any run.
+ends 0 run "$book" "$script" --save watched.state --show --digits 2
+cp out plain.out
+ends 0 run "$book" "$script" --save watched.state --force --show --digits 2 --watch '$304' --watch-level
+says out '  event 152: $304 0 -> 1  by  $03A  3F04  STA $304'
+says out 'cell $304: 2 changes; of 3 instructions that can change it 1 did, and these never:'
+grep -v -e '^changes, ' -e '^  event ' -e '^cell \$' -e '^  \$' out >rest.out
+same rest.out plain.out
+same watched.state end.state
+ends 0 run "$book" "$script" --watch 300
+says out '  by  $040  3C0F  STA $00F  ; wherever the pointer $012, $011, $010 stands'
+ends 0 run "$book" "$script" --watch 0x16F
+says out 'cell $16F: 0 changes; of 2 instructions that can change it 0 did, and these never:'
+ends 0 run "$book" "$script" --watch 021 --stop 010
+says out '52 of 348 events done; stopped at $010'
+says out 'cell $021: 1 change; of 4'
+ends 0 run "$book" below.script --state ready.state --watch-level
+says out '109 of 109 events done'
+ends 0 run "$book" mixed.bytes --raw-script --watch 021
+says out '10 of 10 events done'
+ends 0 run "$book" empty.script --watch 021
+says out 'cell $021: 0 changes'
+ends 0 run stop.book empty.script --watch 36D
+says out 'cell $36D: 0 changes; of 0 instructions that can change it 0 did'
+ends 1 run stop.book nine.script --watch 20
+says err 'refused by 6, value 2'
+says out '2 of 9 events done; stopped before a word that is no instruction'
+says out '  event 0: $020 0 -> 9  by  $000  7CA0  LDI $020, 9'
+says out 'cell $020: 1 change; of 1 instruction that can change it 1 did'
+# What is refused is not run.
+: >nothing
+for cell in 000 01F 170 2FF 349 357 36E 370 3FF 400 FFFFFFFF; do
+    ends 1 run "$book" "$script" --watch $cell --save never.state
+    says err "the list of writers: refused by 8, value $((0x$cell))"
+    same out nothing
+done
+ends 1 run "$book" unknown.script --watch-level --save never.state
+says err 'refused by 5, value 1'
+same out nothing
+ends 1 run "$book" "$script" --state cell.state --watch-level --save never.state
+says err 'refused by 3, value 0'
+same out nothing
+absent never.state
+# A list that leaves a writer out is found out by a run in which that one writes.
+proved=$desk
+desk=$forgetful
+ends 3 run "$book" "$script" --watch-level
+says out '348 of 348 events done'
+says out '  event 5: $021 0 -> 2  by  $016  7921  LDI $021, 2'
+says err 'desk: FAULT: event 5 changed cell $021 at $016, which its list of writers does not have'
+says err 'report it'
+ends 3 demo "$examples"
+says err 'desk: FAULT: event 5 changed cell $021 at $016, which its list of writers does not have'
+ends 0 run "$book" "$script" --watch 020
+quiet
+desk=$proved
 
 echo "desk: books"
 ends 0 book check "$book"

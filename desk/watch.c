@@ -1,0 +1,145 @@
+/* Cells watched while a script's events happen. */
+#include "watch.h"
+
+#include "refusal.h"
+
+#include <stdarg.h>
+#include <stdio.h>
+#include <string.h>
+
+/* What an address is to a watched cell. */
+enum { NO_WRITER, NEVER_CHANGED, CHANGED };
+
+/* The interrupt flags. */
+enum { ENABLED = 0x000, REQUESTED = 0x001 };
+
+/* ---- What is watched ---- */
+
+bool watch_cell(struct watch *watch, const struct book *book, uint32_t cell, const char *meaning)
+{
+    struct watched *added;
+    struct writers writers;
+
+    for (size_t at = 0; at < watch->count; at++)
+        if (watch->cells[at].cell == cell)
+            return true;
+    if (!ask_writers(book, cell, &writers))
+        return false;
+    added = &watch->cells[watch->count++];
+    *added = (struct watched){.cell = cell, .meaning = meaning};
+    for (size_t at = 0; at < writers.count; at++)
+        added->writer[writers.address[at]] = NEVER_CHANGED;
+    return true;
+}
+
+bool watch_level(struct watch *watch, const struct book *book)
+{
+    for (enum digit digit = HIGH; digit < DIGITS; digit++)
+        if (!watch_cell(watch, book, level_cell(book, digit), digit_meaning[digit]))
+            return false;
+    return true;
+}
+
+/* ---- A run's events, one by one ---- */
+
+/* Says what only a mistake in the library or in this command can bring about. Answers false: not without fault. */
+static bool say_fault(const char *format, ...) __attribute__((format(printf, 1, 2)));
+
+static bool say_fault(const char *format, ...)
+{
+    va_list arguments;
+
+    fflush(stdout);
+    fprintf(stderr, "desk: FAULT: ");
+    va_start(arguments, format);
+    vfprintf(stderr, format, arguments);
+    va_end(arguments);
+    fprintf(stderr, "\n");
+    return false;
+}
+
+/* A cycle of a running machine in which no enabled interrupt is requested: what the list of writers speaks of. */
+static bool executes(const struct state *before, uint8_t event)
+{
+    return event == GALHOVEIA_EVENT_CYCLE && before->record[GALHOVEIA_RECORD_MODE] == GALHOVEIA_RUNNING
+           && !(before->memory[ENABLED] & before->memory[REQUESTED]);
+}
+
+/* One change, by the instruction at which the machine stood. */
+static bool show_change(struct watched *watched, const struct book *book, uint64_t place, uint8_t event,
+                        const struct state *before, const struct state *now)
+{
+    unsigned address = two(before->record + GALHOVEIA_RECORD_PC);
+
+    printf("  event %llu: $%03lX %u -> %u  by  ", (unsigned long long)place, (unsigned long)watched->cell,
+           before->memory[watched->cell], now->memory[watched->cell]);
+    show_instruction(book, address);
+    watched->changes++;
+    if (!executes(before, event))
+        return say_fault("event %llu executes no instruction and changed cell $%03lX", (unsigned long long)place,
+                         (unsigned long)watched->cell);
+    if (watched->writer[address] == NO_WRITER)
+        return say_fault("event %llu changed cell $%03lX at $%03X, which its list of writers does not have",
+                         (unsigned long long)place, (unsigned long)watched->cell, address);
+    watched->writer[address] = CHANGED;
+    return true;
+}
+
+static void show_writers_seen(const struct watched *watched, const struct book *book)
+{
+    unsigned listed = 0, changed = 0;
+
+    for (unsigned address = 0; address < GALHOVEIA_WORDS; address++) {
+        listed += watched->writer[address] != NO_WRITER;
+        changed += watched->writer[address] == CHANGED;
+    }
+    printf("cell $%03lX%s: %llu change%s; of %u instruction%s that can change it %u did%s\n",
+           (unsigned long)watched->cell, watched->meaning, (unsigned long long)watched->changes,
+           watched->changes == 1 ? "" : "s", listed, listed == 1 ? "" : "s", changed,
+           changed < listed ? ", and these never:" : "");
+    for (unsigned address = 0; address < GALHOVEIA_WORDS; address++)
+        if (watched->writer[address] == NEVER_CHANGED) {
+            printf("  ");
+            show_instruction(book, address);
+        }
+}
+
+/* Each event by a single step. Answers whether the run's end was come to without a fault. */
+static bool step_through(struct watch *watch, const struct book *book, struct state now, const uint8_t *events,
+                         uint64_t done, const struct state *end)
+{
+    bool faultless = true;
+
+    for (uint64_t place = 0; place < done; place++) {
+        struct state before = now;
+        uint64_t value = 0;
+        uint32_t refusal = galhoveia_step(book->program.at, book->program.length, now.memory, sizeof now.memory,
+                                          now.record, sizeof now.record, events[place], &value);
+
+        if (refusal != GALHOVEIA_DONE) {
+            say_refusal("a single step", refusal, value);
+            return say_fault("event %llu was done by the run", (unsigned long long)place);
+        }
+        for (size_t at = 0; at < watch->count; at++) {
+            struct watched *watched = &watch->cells[at];
+
+            if (before.memory[watched->cell] != now.memory[watched->cell])
+                faultless = show_change(watched, book, place, events[place], &before, &now) && faultless;
+        }
+    }
+    if (memcmp(&now, end, sizeof now) != 0)
+        return say_fault("single steps and the run come to different states");
+    return faultless;
+}
+
+bool show_changes(struct watch *watch, const struct book *book, const struct state *start, const uint8_t *events,
+                  uint64_t done, const struct state *end)
+{
+    bool faultless;
+
+    printf("changes, with events counted from 0:\n");
+    faultless = step_through(watch, book, *start, events, done, end);
+    for (size_t at = 0; at < watch->count; at++)
+        show_writers_seen(&watch->cells[at], book);
+    return faultless || say_fault("this must never be; please keep book, state and script, and report it");
+}
