@@ -9,7 +9,6 @@ ghost use mathlib.Core.Path.{_≡_};
 ghost use lib.ListN.{set};
 ghost use Rattle.sh_state.specs.State.{state};
 ghost use Rattle.sh_cycle.specs.Cycle.{happened, readTakenOf, wokenOf, wordInOf, clockOf, instructedOf, interruptCycleOf, awakeCycleOf, asleepCycleOf, cycleDueOf, cycleOf};
-ghost use Rattle.sh_timers.specs.Ticked.{timeSetOf};
 ghost use Rattle.sh_cycle.specs.Read.{landedBy, finishedBy, endedBy};
 ghost use Rattle.sh_execute.specs.Execute.{executeOf};
 ghost use Prim.Native.Nat.{ℕ, _/_, _%_};
@@ -87,22 +86,13 @@ fn landed(program: &[u16], pending: u8, address: u16, memory: &mut [u8])
     }
 }
 
-fn time_set(m: Machine, prescaler: u16, counter: u8) -> Machine
-    ensures { λ r. ⌜ r ≡ timeSetOf m prescaler counter ⌝ }
-{
-    let mut n = m;
-    n.prescaler = prescaler;
-    n.counter = counter;
-    n
-}
-
 // (e)
 fn clock(m: Machine, memory: &mut [u8]) -> Machine
     ensures { λ r. ⌜ state r (now (memory .exit)) ≡ clockOf (state m (now (memory .entry))) ⌝ }
 {
     let t = timer0::ticked(m.prescaler, m.counter, m.load, map::cell(memory, 0x02));
     request::requested(memory, t.requests);
-    time_set(m, t.prescaler, t.counter)
+    timer0::time_set(m, t.prescaler, t.counter)
 }
 
 // (d) and (e): the pending read of before, and the machine after

@@ -84,6 +84,7 @@ pub struct Pause {
     pub reached: bool,
 }
 
+// An invariant may speak only of what its loop names: m is here to be named.
 fn so_far(m: Machine, core: Core, events: usize, reached: bool) -> Pause
     ensures { λ r. ⌜ r ≡ pausedAt core events reached ⌝ }
 {

@@ -1,9 +1,9 @@
 // How many clocks Timer0 takes before its counter would go past 255, and the machine after some of them.
 use sh_core::Core;
 use sh_state::machine::Machine;
+use sh_timers::timer0;
 ghost use Prim.Native.Nat.{_+_, _-_, _*_, _/_, _%_, _<_, _≤_};
 ghost use mathlib.Core.Path.{_≡_};
-ghost use Rattle.sh_state.specs.Record.{setPrescaler, setCounter};
 ghost use Rattle.sh_core.specs.Quick.{coreIn};
 ghost use Rattle.sh_ticks.specs.Clock.{timedOf, roomOf};
 
@@ -50,17 +50,8 @@ fn counter_at(t: u64, ratio: u16) -> u8
     (t / ratio as u64) as u8
 }
 
-fn with_timer(m: Machine, prescaler: u16, counter: u8) -> Machine
-    ensures { λ r. ⌜ r ≡ setCounter (setPrescaler m prescaler) counter ⌝ }
-{
-    let mut n = m;
-    n.prescaler = prescaler;
-    n.counter = counter;
-    n
-}
-
 // The machine after n clocks of Timer0, by the mode in $002.
-pub fn timed(m: Machine, mode: u8, n: u32) -> Machine
+fn timed(m: Machine, mode: u8, n: u32) -> Machine
     requires { ⌜ 0 < roomOf m mode ⌝ }
     requires { ⌜ n ≤ roomOf m mode ⌝ }
     ensures { λ r. ⌜ r ≡ timedOf m mode n ⌝ }
@@ -70,7 +61,7 @@ pub fn timed(m: Machine, mode: u8, n: u32) -> Machine
     }
     let ratio = sh_periods::ratio(mode);
     let t = clocks(m.counter, m.prescaler, ratio, n);
-    with_timer(m, prescaler_at(t, ratio), counter_at(t, ratio))
+    timer0::time_set(m, prescaler_at(t, ratio), counter_at(t, ratio))
 }
 
 fn in_machine(m: Machine, c: Core) -> Machine

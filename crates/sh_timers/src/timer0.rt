@@ -5,7 +5,7 @@ ghost use mathlib.Core.Path.{_≡_};
 ghost use Rattle.sh_timers.specs.Timer0.{reloadOf, countedOf, fallenOf};
 ghost use Rattle.sh_state.specs.Record.{setCounter};
 ghost use Rattle.sh_timers.specs.Request.{moved};
-ghost use Rattle.sh_timers.specs.Ticked.{tickedBy, tickedOf};
+ghost use Rattle.sh_timers.specs.Ticked.{tickedBy, tickedOf, timeSetOf};
 
 fn reload(m: Machine, mode: u8) -> u8
     ensures { λ r. ⌜ r ≡ reloadOf m mode ⌝ }
@@ -93,6 +93,16 @@ pub fn ticked(prescaler: u16, counter: u8, load: u8, mode: u8) -> Tick
     ensures { λ r. ⌜ r ≡ tickedOf prescaler counter load mode ⌝ }
 {
     ticked_by(prescaler, counter, load, mode, sh_periods::ratio(mode))
+}
+
+// The record with Timer0's prescaler and counter.
+pub fn time_set(m: Machine, prescaler: u16, counter: u8) -> Machine
+    ensures { λ r. ⌜ r ≡ timeSetOf m prescaler counter ⌝ }
+{
+    let mut n = m;
+    n.prescaler = prescaler;
+    n.counter = counter;
+    n
 }
 
 // A falling edge of PORTA.0 as input (1), or none (0), by the mode in $002.

@@ -2,6 +2,7 @@
 use Rattle.sh_rules.proofs.Fits.{ratio-positive}
 use Rattle.sh_ticks.proofs.Ticks.{clocks-below}
 use borrow.Author.Tests.{eq-eqb, ne-eqb}
+use Rattle.sh_timers.specs.Ticked.{timeSetOf}
 use Rattle.sh_ticks.specs.Clock.{clocksOf, timedOf}
 use borrow.Author.Needs.{needs}
 use Rattle.sh_ticks.proofs.timed.Statement.{statement}
@@ -29,11 +30,11 @@ counter-at-requires c κs =
     let a = e .before in
     (rw (r .ratio .ensures) (ratio-positive _), rw (k .clocks .ensures, r .ratio .ensures) (clocks-below (a .args .m) (a .args .mode) (e .if1 .left) (a .args .n) (a .pre .0) (a .pre .1)))
 
-with-timer-requires : tie.Need-with-timer-requires
-with-timer-requires c κs = search needs
+time-set-requires : tie.Need-time-set-requires
+time-set-requires c κs = search needs
 
 returns-2 : tie.Need-returns-2
-unfolding timedOf clocksOf
+unfolding timedOf clocksOf timeSetOf
 returns-2 c = rw (ne-eqb _ _ (c .before .before .before .before .before .if1 .left)) cc
 
 pub timed-spec : {M : Type 1} → statement M
@@ -45,5 +46,5 @@ timed-spec =
     clocks-requires
     prescaler-at-requires
     counter-at-requires
-    with-timer-requires
+    time-set-requires
     returns-2)

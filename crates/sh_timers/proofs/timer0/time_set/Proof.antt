@@ -1,9 +1,9 @@
--- `sh_cycle::cycle::time_set`: two fields stored.
+-- `sh_timers::timer0::time_set`: two fields stored.
 use mathlib.Core.Path.{refl}
 use Rattle.sh_state.specs.Record.{setPrescaler, setCounter}
 use Rattle.sh_timers.specs.Ticked.{timeSetOf}
-use Rattle.sh_cycle.proofs.cycle.time_set.Statement.{statement}
-use Rattle.sh_cycle.proofs.cycle.time_set.Tie as tie
+use Rattle.sh_timers.proofs.timer0.time_set.Statement.{statement}
+use Rattle.sh_timers.proofs.timer0.time_set.Tie as tie
 
 returns : tie.Need-returns
 unfolding timeSetOf setCounter setPrescaler
