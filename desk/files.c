@@ -69,7 +69,13 @@ struct bytes read_file(const char *path, size_t most)
 
 void may_write(const char *path, bool force)
 {
-    if (!force && access(path, F_OK) == 0)
+    struct stat there;
+
+    if (lstat(path, &there) != 0)
+        return;
+    if (!S_ISREG(there.st_mode))
+        fail("cannot write %s: it is no ordinary file and is left as it is, --force or not", path);
+    if (!force)
         fail("%s exists and is left as it is; --force writes over it", path);
 }
 

@@ -138,6 +138,19 @@ says err 'cannot write nowhere/two.state'
 mkdir folder
 ends 2 fresh folder --force
 says err 'cannot write folder'
+# A pipe or a link is not replaced by a file of its name, as a device would be.
+mkfifo pipe
+ln -s one.state link
+ln -s nothing dangling
+for odd in pipe link dangling; do
+    ends 2 fresh $odd
+    says err "cannot write $odd: it is no ordinary file and is left as it is"
+    ends 2 fresh $odd --force
+    says err "cannot write $odd: it is no ordinary file and is left as it is"
+done
+if [ -p pipe ] && [ -L link ] && [ -L dangling ]; then ok; else wrong "a pipe or a link was replaced"; fi
+same one.state link
+absent nothing
 no_parts
 ends 0 fresh -- --odd-name
 size_is ./--odd-name 1061
