@@ -4,6 +4,7 @@
 desk=$(realpath "$1") || exit 2
 forgetful=$(realpath "$2") || exit 2
 examples=$(realpath examples) || exit 2
+inspector=$(realpath docs/INSPECTOR.md) || exit 2
 work=$(mktemp -d) || exit 2
 trap 'rm -rf "$work"' EXIT
 cd "$work" || exit 2
@@ -348,6 +349,13 @@ cell $021 (low digit of the level): 3 changes; of 4 instructions that can change
 END
 ends 0 run "$book" "$script" --watch-level
 same out wanted
+# The inspector's page shows it, and the list of writers, as they are.
+sed -n '/^changes, /,$p' wanted >block
+sed -n '/^changes, /,/^```/p' "$inspector" | sed '$d' >shown
+same shown block
+ends 0 writers "$book" --level
+sed -n '/^cell $020 (high digit of the level): 4 instructions/,/^```/p' "$inspector" | sed '$d' >shown
+same shown out
 quiet
 ends 0 run "$book" "$script" --watch 20 --watch-level
 same out wanted
