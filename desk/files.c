@@ -67,10 +67,25 @@ struct bytes read_file(const char *path, size_t most)
     return read;
 }
 
+/* Ends the command if no file can be made where the path has one. */
+static void may_make(const char *path)
+{
+    const char *slash = strrchr(path, '/');
+    size_t before = slash ? (size_t)(slash - path) + 1 : 0;
+    char *folder = take_memory(before + sizeof ".", 1);
+
+    memcpy(folder, path, before);
+    folder[before] = '.';
+    if (access(folder, W_OK | X_OK) != 0)
+        fail("cannot write %s: %s", path, strerror(errno));
+    free(folder);
+}
+
 void may_write(const char *path, bool force)
 {
     struct stat there;
 
+    may_make(path);
     if (lstat(path, &there) != 0)
         return;
     if (!S_ISREG(there.st_mode))

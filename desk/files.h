@@ -24,8 +24,9 @@ void *take_memory(size_t count, size_t size);
    that a text can be read as a string. */
 struct bytes read_file(const char *path, size_t most);
 
-/* Ends the command if the file may not be written: it exists, and `force` is false; or a folder, device, pipe or link is
-   there, which a file that gets its name would take away. Asked before any work is done. */
+/* Ends the command if the file may not be written: its folder takes no files; or it exists, and `force` is false; or a
+   folder, device, pipe or link is there, which a file that gets its name would take away. Asked before any work is
+   done. */
 void may_write(const char *path, bool force);
 
 /* Writes beside the file first and then gives it its name, so that no half of it is ever seen under that name. */

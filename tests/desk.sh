@@ -39,6 +39,11 @@ quiet() {
     if [ -s err ]; then wrong "$said: something on stderr:"; cat err; else ok; fi
 }
 
+# The last run was refused before any work was done.
+unbegun() {
+    if [ -s out ]; then wrong "$said: something was done first:"; cat out; else ok; fi
+}
+
 # same FILE FILE
 same() {
     if cmp -s "$1" "$2"; then ok; else wrong "$said: $1 and $2 differ"; fi
@@ -169,7 +174,11 @@ size_is end.state 1061
 cp end.state kept
 ends 2 run "$book" "$script" --save end.state --stop 010
 says err 'end.state exists'
+unbegun
 same end.state kept
+ends 2 run "$book" "$script" --save nowhere/end.state
+says err 'cannot write nowhere/end.state'
+unbegun
 ends 0 run "$book" "$script" --stop 010 --save ready.state
 says out '52 of 348 events done; stopped at $010'
 ends 0 run "$book" "$script" --stop '$10'
