@@ -1,4 +1,4 @@
--- A well-formed machine passes through its 37 bytes unchanged: no rule lets a word of the record outgrow two bytes.
+-- A well-formed machine passes through its 43 bytes unchanged: no rule lets a word of the record outgrow two bytes.
 use mathlib.Core.Path.{_≡_, refl}
 use Prim.Native.Nat.{ℕ, _%_, _<_}
 use native.Mathlib.Omega.{arith}
@@ -30,6 +30,8 @@ well-formed-sized s e =
       prescaler = omega (arith, f .prescaler, ratio-sized (at (s .memory) 0x02));
       watchdog = omega (arith, f .watchdog, period-sized (at (s .memory) 0x1E));
       address = omega (arith, f .address);
+      first = omega (arith, f .channels .first .count);
+      second = omega (arith, f .channels .second .count);
       eight = f .levels;
       entries = λ k. omega (arith, f .entries k);
     }

@@ -36,7 +36,7 @@ module _ (c : ℕ) (h : askableOf c ≡ true) where
   low : 0x20 ≤ c
   low = past-registers c h .0
 
-  -- Pulses and pins: requests in $001.
+  -- Pulses and pins: requests in $001. A sound clock leaves the memory.
 
   base-pulse-leaves : (s : State) → Same c s (basePulseOf s)
   unfolding basePulseOf
@@ -71,7 +71,8 @@ module _ (c : ℕ) (h : askableOf c ≡ true) where
   other-leaves s e f =
       by-eq (Same c s) e 0x01 _ _ (λ t. base-pulse-leaves s)
       (λ t. by-eq (Same c s) e 0x02 _ _ (λ t. watchdog-pulse-leaves s f)
-      (λ t. by-eq (Same c s) e 0x03 _ _ (λ t. reset-leaves c h Pin s f) (λ t. pins-leave s e)))
+      (λ t. by-eq (Same c s) e 0x03 _ _ (λ t. reset-leaves c h Pin s f)
+      (λ t. by-eq (Same c s) e 0x05 _ _ (λ t. refl) (λ t. pins-leave s e))))
 
   -- every event but the cycle
   pub event-leaves : (p : List ℕ) (s : State) (e : ℕ) → Fit s → (e ≡ 0x00 → ⊥) → Same c s (eventOf p s e .after)

@@ -8,7 +8,7 @@ abbrev pub numberOf : Refusal → ℕ
 numberOf (ProgramLength v) = 1  -- program not 4,096 words
 numberOf (MemoryLength v) = 2  -- memory not 1,024 bytes
 numberOf (CellRule v) = 3  -- a cell breaks the memory rules
-numberOf Record = 4  -- record bytes not 37, or record not well formed
+numberOf Record = 4  -- record bytes of another number than the record has, or record not well formed
 numberOf (UnknownEvent v) = 5  -- unknown event
 numberOf (UnlistedWord v) = 6  -- a cycle would execute an unlisted word; or an unlisted word is read
 numberOf (Room v) = 7  -- output has too little room

@@ -18,6 +18,7 @@ use Rattle.sh_timers.proofs.Kept.{requested-keeps, fallen-keeps}
 use Rattle.sh_base_timer.proofs.Kept.{base-pulsed-keeps}
 use Rattle.sh_watchdog.proofs.Kept.{counted-down-keeps}
 use Rattle.sh_reset.proofs.Kept.{reset-keeps}
+use Rattle.sh_sound.proofs.Kept.{sound-keeps}
 use Rattle.sh_cycle.specs.Cycle.{Happened}
 use Rattle.sh_events.specs.Ports.{externalOf, fallingOf, portAOf, portRequestOf, portEdgesOf, portBOf, portCOf}
 use Rattle.sh_events.specs.Event.{basePulseOf, watchdogPulseOf, pinsOf, otherOf, eventOf}
@@ -90,7 +91,8 @@ module _ {s : State} (f : Fit s) where
   unfolding otherOf
   other-keeps e =
       by-eq Fit e 0x01 _ _ (λ t. base-pulse-keeps)
-      (λ t. by-eq Fit e 0x02 _ _ (λ t. watchdog-pulse-keeps) (λ t. by-eq Fit e 0x03 _ _ (λ t. reset-keeps Pin f) (λ t. pins-keep e)))
+      (λ t. by-eq Fit e 0x02 _ _ (λ t. watchdog-pulse-keeps)
+      (λ t. by-eq Fit e 0x03 _ _ (λ t. reset-keeps Pin f) (λ t. by-eq Fit e 0x05 _ _ (λ t. sound-keeps f) (λ t. pins-keep e))))
 
 pub event-keeps : (p : List ℕ) (s : State) (e : ℕ) → Fit s → Fit (eventOf p s e .after)
 unfolding eventOf

@@ -1,4 +1,4 @@
--- What each event does (01, "Events").
+-- What each event does (01, "Events"; 02, P1: $05).
 use Prim.Native.Nat.{ℕ, _/_, _%_}
 use mathlib.Core.Bool.{false}
 use mathlib.Core.List.{List}
@@ -8,6 +8,7 @@ use Rattle.sh_state.specs.Record.{setPinD}
 use Rattle.sh_state.specs.State.{State, state}
 use Rattle.sh_base_timer.specs.BaseTimer.{basePulsedOf}
 use Rattle.sh_watchdog.specs.Watchdog.{expiresOf, countedDownOf}
+use Rattle.sh_sound.specs.Sound.{soundOf}
 use Rattle.sh_reset.specs.Reset.{resetOf}
 use Rattle.sh_reset.specs.declared.reset.Column.the-variants.{Pin, Watchdog}
 use Rattle.sh_cycle.specs.Cycle.{Happened, happened, movedOf, cycleOf}
@@ -33,7 +34,9 @@ pinsOf s e =
 unfoldable pub otherOf : State → ℕ → State
 otherOf s e =
     pick (eqb e 0x01) (basePulseOf s)
-    (pick (eqb e 0x02) (watchdogPulseOf s) (pick (eqb e 0x03) (resetOf Pin s) (pinsOf s e)))
+    (pick (eqb e 0x02) (watchdogPulseOf s)
+    (pick (eqb e 0x03) (resetOf Pin s)
+    (pick (eqb e 0x05) (state (soundOf (s .machine) (s .memory)) (s .memory)) (pinsOf s e))))
 
 -- $00 is the cycle
 unfoldable pub eventOf : List ℕ → State → ℕ → Happened

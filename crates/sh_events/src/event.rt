@@ -61,6 +61,9 @@ pub fn other(m: Machine, memory: &mut [u8], e: u8) -> Machine
     if e == 0x03 {
         return reset::reset(Column::Pin, m, memory);
     }
+    if e == 0x05 {
+        return sh_sound::sound(m, memory);
+    }
     pins(m, memory, e)
 }
 

@@ -9,6 +9,9 @@ pub fn known(e: u8) -> bool
     if e < 0x04 {
         return true;
     }
+    if e == 0x05 {
+        return true;
+    }
     if e < 0x10 {
         return false;
     }

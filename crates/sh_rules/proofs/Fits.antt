@@ -22,7 +22,10 @@ use Rattle.lent.specs.declared.Found.the-variants.{At, Nothing}
 use Rattle.sh_rules.specs.Judge.{cellsJudged, memoryJudged, recordJudged, firstOf, stateJudged}
 use Rattle.sh_map.specs.Map.{kindOf, registerBits, heldIn, heldOf}
 use Rattle.sh_periods.specs.Periods.{ratios, ratioOf, baseRatios, baseRatioOf, baseOn, periods, periodOf}
-use Rattle.sh_state.specs.Record.{setPc, setAc, setCy, setMode, setStack, setPrescaler, setCounter, setLoad, setBasePrescaler, setBaseCounter, setWatchdog, setPinA, setPinB, setPinC, setPinD, setPending, pushed, popped, pushOf, popOf, entryOf}
+use Rattle.sh_tones.specs.declared.Channels.{Channels}
+use Rattle.sh_tones.specs.Tone.{channelsFit}
+use Rattle.sh_tones.proofs.Kept.{ChannelsFit, channels-fit, channels-judged}
+use Rattle.sh_state.specs.Record.{setPc, setAc, setCy, setMode, setStack, setPrescaler, setCounter, setLoad, setBasePrescaler, setBaseCounter, setWatchdog, setPinA, setPinB, setPinC, setPinD, setPending, setChannels, pushed, popped, pushOf, popOf, entryOf}
 use Rattle.sh_rules.specs.Rules.{cellFits, brokenFrom, cpuFits, stackFits, timer0Fits, baseFits, watchdogFits, bytesFit, pinsFit, optionsFit, pendingFits, tiesFit, wellFormedOf}
 use Rattle.sh_state.specs.State.{State, state}
 use Rattle.sh_rules.proofs.Laws.{first-fine}
@@ -65,6 +68,7 @@ pub record MachineFit (m : Machine) (timer base control bonding : ℕ) : Type 0 
   pub address : m .address < 4096
   -- 0 when none is pending
   pub none : m .pending ≡ 0 → m .address ≡ 0
+  pub channels : ChannelsFit (m .channels)
 
 -- a machine that keeps them all
 pub record Fit (s : State) : Type 0 where
@@ -182,7 +186,8 @@ machine-of s e =
     let q = both-true (cpuFits m) (stackFits (m .stack)) (p .0) in
     let r = both-true (both (bytesFit m) (pinsFit m)) _ (p .1) in
     let u = both-true (bytesFit m) (pinsFit m) (r .0) in
-    let v = both-true (pendingFits m) _ (r .1) in
+    let v = both-true (both (pendingFits m) (channelsFit (m .channels))) _ (r .1) in
+    let k = both-true (pendingFits m) (channelsFit (m .channels)) (v .0) in
     let w = both-true (timer0Fits m (at (s .memory) 0x02)) _ (v .1) in
     let x = both-true (baseFits m (at (s .memory) 0x03)) _ (w .1) in
     let y = both-true (watchdogFits m (at (s .memory) 0x1E)) (optionsFit m (at (s .memory) 0x0C)) (x .1) in
@@ -190,7 +195,8 @@ machine-of s e =
     let stack = stack-of (m .stack) (q .1) in
     let bytes = bytes-of m (u .0) in
     let pins = pins-of m (u .1) in
-    let pending = pending-of m (v .0) in
+    let pending = pending-of m (k .0) in
+    let channels = channels-fit (m .channels) (k .1) in
     let timer = ltb-true (m .prescaler) (ratioOf (at (s .memory) 0x02)) (w .0) in
     let base = base-of m (at (s .memory) 0x03) (x .0) in
     let dog = watchdog-of m (at (s .memory) 0x1E) (y .0) in
@@ -256,7 +262,7 @@ pub judged-of : {s : State} → Fit s → stateJudged s ≡ Fine
 unfolding stateJudged recordJudged memoryJudged cellsJudged firstOf wellFormedOf tiesFit
 judged-of {s} f =
     let g = f .machine in
-    rw (eq-eqb (length (s .memory)) 1024 (f .memory .size), unbroken (s .memory) 0 (λ a. rw zero-add (f .memory .cells a)), cpu-fits g, stack-fits (s .machine .stack) (g .levels) (g .entries), bytes-fit g, pins-fit g, pending-fits g, ties-fit g)
+    rw (eq-eqb (length (s .memory)) 1024 (f .memory .size), unbroken (s .memory) 0 (λ a. rw zero-add (f .memory .cells a)), cpu-fits g, stack-fits (s .machine .stack) (g .levels) (g .entries), bytes-fit g, pins-fit g, pending-fits g, channels-judged (s .machine .channels) (g .channels), ties-fit g)
 
 -- What the cells of a well-formed memory hold.
 
@@ -355,6 +361,10 @@ module _ {m : Machine} {t b w o : ℕ} (f : MachineFit m t b w o) (v : ℕ) wher
   pub pending-read-fits : (a : ℕ) → v < 2 → a < 4096 → (v ≡ 0 → a ≡ 0) → MachineFit (setPending m v a) t b w o
   unfolding setPending
   pending-read-fits a h k z = search
+
+pub channels-set-fits : {m : Machine} {t b w o : ℕ} → MachineFit m t b w o → (c : Channels) → ChannelsFit c → MachineFit (setChannels m c) t b w o
+unfolding setChannels
+channels-set-fits f c h = search
 
 pub stack-set-fits : {m : Machine} {t b w o : ℕ} → MachineFit m t b w o → (s : List ℕ) → length s ≡ 8 → ((i : ℕ) → at s i < 8192) → MachineFit (setStack m s) t b w o
 unfolding setStack

@@ -228,8 +228,9 @@ pub fn well_formed(m: Machine, memory: &[u8]) -> bool
     let s = m.stack;
     let cpu = lent::both(cpu_fits(m), stack_fits(s));
     let ports = lent::both(bytes_fit(m), pins_fit(m));
+    let rest = lent::both(pending_fits(m), sh_tones::fit(m.channels));
     lent::both(
         cpu,
-        lent::both(ports, lent::both(pending_fits(m), ties_fit(m, memory))),
+        lent::both(ports, lent::both(rest, ties_fit(m, memory))),
     )
 }

@@ -1,4 +1,5 @@
 // The machine's record, by value.
+use sh_tones::Channels;
 ghost use mathlib.Core.Path.{_≡_};
 ghost use Rattle.sh_state.specs.Record.{setPc, entryOf, pushOf, popOf, newestOf, freshOf};
 
@@ -12,20 +13,21 @@ pub struct Machine {
     pub address: u16,
     // CY times 4,096 plus PC, newest first
     pub stack: [u16; Machine::LEVELS],
+    pub channels: Channels,
     pub ac: u8,
     pub cy: u8,
+    pub counter: u8,
+    pub load: u8,
     // 0 running, 1 HALT, 2 STOP
     pub mode: u8,
     // 1 while a ROM read waits
     pub pending: u8,
-    pub counter: u8,
-    pub load: u8,
-    pub baseprescaler: u8,
-    pub basecounter: u8,
     pub pina: u8,
     pub pinb: u8,
     pub pinc: u8,
     pub pind: u8,
+    pub baseprescaler: u8,
+    pub basecounter: u8,
     // bit 0 watchdog on, bits 1 and 2 the bonding bits BD0 and BD1
     pub options: u8,
 }
@@ -60,6 +62,7 @@ impl Machine {
             options,
             pending: 0,
             address: 0,
+            channels: sh_tones::silent(),
         }
     }
 

@@ -1,9 +1,20 @@
--- The machine's record as 37 bytes: fields in 01's order ("What is lent"), high byte first.
-use Prim.Native.Nat.{ℕ}
+-- The machine's record as 43 bytes: fields in 01's order ("What is lent"), then the tone channels (02, P1), high byte first.
+use Prim.Native.Nat.{ℕ, _+_}
 use mathlib.Core.List.{List, [], _∷_, _++_}
 use Rattle.lent.specs.Lent.{at, pairAtOf}
+use Rattle.sh_tones.specs.declared.Channel.{Channel}
+use Rattle.sh_tones.specs.declared.Channels.{Channels}
+use Rattle.sh_tones.specs.Tone.{channel, channels}
 use Rattle.sh_state.specs.declared.machine.Machine.{Machine}
 use Rattle.wire.specs.Words.{two, pairsOf}
+
+-- "remaining count (2 bytes) and output (1)"
+unfoldable pub channelAt : List ℕ → ℕ → Channel
+channelAt l i = channel (pairAtOf l i) (at l (i + 2))
+
+-- "after the 37 bytes"
+unfoldable pub channelsAt : List ℕ → Channels
+channelsAt l = channels (channelAt l 37) (channelAt l 40)
 
 -- 2 bytes: PC, each stack entry, Timer0 prescaler, watchdog count, pending address; 1 byte: every other field
 unfoldable pub recordOf : List ℕ → Machine
@@ -27,6 +38,7 @@ recordOf l =
       options = at l 33;
       pending = at l 34;
       address = pairAtOf l 35;
+      channels = channelsAt l;
     }
 
 unfoldable pub bytesOf : Machine → List ℕ
@@ -35,4 +47,5 @@ bytesOf m =
     ∷ pairsOf (m .stack) 8
     ++ two (m .prescaler) (m .counter ∷ m .load ∷ m .baseprescaler ∷ m .basecounter
     ∷ two (m .watchdog) (m .pina ∷ m .pinb ∷ m .pinc ∷ m .pind ∷ m .options ∷ m .pending
-    ∷ two (m .address) [])))
+    ∷ two (m .address) (two (m .channels .first .count) (m .channels .first .output
+    ∷ two (m .channels .second .count) (m .channels .second .output ∷ []))))))

@@ -1,12 +1,36 @@
-// The machine's record as 37 bytes.
+// The machine's record as 43 bytes.
 use crate::words;
 use sh_state::machine::Machine;
+use sh_tones::Channel;
+use sh_tones::Channels;
+ghost use Prim.Native.Nat.{_<_};
 ghost use mathlib.Core.Path.{_≡_};
 ghost use Rattle.lent.specs.Lent.{pastedOf};
-ghost use Rattle.wire.specs.Record.{bytesOf, recordOf};
+ghost use Rattle.wire.specs.Record.{bytesOf, channelAt, channelsAt, recordOf};
 ghost use Rattle.wire.specs.Words.{pairsOf};
 
-pub const BYTES: usize = 37;
+pub const BYTES: usize = 43;
+
+// A channel: two bytes of its count, and its output.
+fn channel_at(s: &[u8], i: usize) -> Channel
+    requires { ⌜ i < 1024 ⌝ }
+    ensures { λ r. ⌜ r ≡ channelAt (now (s .entry)) i ⌝ }
+{
+    let count = lent::pair_at(s, i);
+    Channel {
+        count,
+        output: lent::peek(s, i + 2),
+    }
+}
+
+fn channels_at(s: &[u8]) -> Channels
+    ensures { λ r. ⌜ r ≡ channelsAt (now (s .entry)) ⌝ }
+{
+    Channels {
+        first: channel_at(s, 37),
+        second: channel_at(s, 40),
+    }
+}
 
 // The record that bytes say; what is missing reads as 0.
 pub fn record_of(s: &[u8]) -> Machine
@@ -24,6 +48,7 @@ pub fn record_of(s: &[u8]) -> Machine
     let prescaler = lent::pair_at(s, 21);
     let watchdog = lent::pair_at(s, 27);
     let address = lent::pair_at(s, 35);
+    let channels = channels_at(s);
     Machine {
         pc,
         ac: lent::peek(s, 2),
@@ -43,6 +68,7 @@ pub fn record_of(s: &[u8]) -> Machine
         options: lent::peek(s, 33),
         pending: lent::peek(s, 34),
         address,
+        channels,
     }
 }
 
@@ -99,10 +125,16 @@ pub fn bytes_of(m: Machine) -> [u8; BYTES]
         m.pending,
         (m.address / 256 % 256) as u8,
         (m.address % 256) as u8,
+        (m.channels.first.count / 256 % 256) as u8,
+        (m.channels.first.count % 256) as u8,
+        m.channels.first.output,
+        (m.channels.second.count / 256 % 256) as u8,
+        (m.channels.second.count % 256) as u8,
+        m.channels.second.output,
     ]
 }
 
-// The record written where it was lent; nothing happens where 37 bytes do not fit.
+// The record written where it was lent; nothing happens where 43 bytes do not fit.
 pub fn write_record(m: Machine, s: &mut [u8])
     ensures { λ _. ⌜ now (s .exit) ≡ pastedOf (now (s .entry)) 0 (bytesOf m) ⌝ }
 {

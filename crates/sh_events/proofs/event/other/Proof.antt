@@ -35,15 +35,30 @@ returns-3 : tie.Need-returns-3
 unfolding otherOf
 returns-3 c = search (eq-eqb, ne-eqb)
 
-pins-requires : tie.Need-pins-requires
-pins-requires c κs = search needs
+sound-requires : tie.Need-sound-requires
+sound-requires c κs = search needs
 
 same-length-4 : tie.Need-same-length-4
 same-length-4 c = search needs
 
 returns-4 : tie.Need-returns-4
 unfolding otherOf
-returns-4 c = search (eq-eqb, ne-eqb)
+returns-4 c =
+    let t = c .before .before in
+    let e = t .before in
+    let f = e .before in
+    let g = f .before in
+    rw (ne-eqb _ _ (g .if1 .left), ne-eqb _ _ (f .if2 .left), ne-eqb _ _ (e .if3 .left), eq-eqb _ _ (t .if4 .taken), ← c .sound .ensures)
+
+pins-requires : tie.Need-pins-requires
+pins-requires c κs = search needs
+
+same-length-5 : tie.Need-same-length-5
+same-length-5 c = search needs
+
+returns-5 : tie.Need-returns-5
+unfolding otherOf
+returns-5 c = search (eq-eqb, ne-eqb)
 
 pub other-spec : {M : Type 1} → statement M
 other-spec =
@@ -58,6 +73,9 @@ other-spec =
     reset-requires
     same-length-3
     returns-3
-    pins-requires
+    sound-requires
     same-length-4
-    returns-4)
+    returns-4
+    pins-requires
+    same-length-5
+    returns-5)

@@ -25,6 +25,9 @@ both-requires-2 c κs = search needs
 pending-fits-requires : tie.Need-pending-fits-requires
 pending-fits-requires c κs = search needs
 
+fit-requires : tie.Need-fit-requires
+fit-requires c κs = search needs
+
 ties-fit-requires : tie.Need-ties-fit-requires
 ties-fit-requires c κs = search needs
 
@@ -36,6 +39,9 @@ both-requires-4 c κs = search needs
 
 both-requires-5 : tie.Need-both-requires-5
 both-requires-5 c κs = search needs
+
+both-requires-6 : tie.Need-both-requires-6
+both-requires-6 c κs = search needs
 
 returns : tie.Need-returns
 unfolding wellFormedOf
@@ -52,8 +58,10 @@ well-formed-spec =
     pins-fit-requires
     both-requires-2
     pending-fits-requires
-    ties-fit-requires
+    fit-requires
     both-requires-3
+    ties-fit-requires
     both-requires-4
     both-requires-5
+    both-requires-6
     returns)

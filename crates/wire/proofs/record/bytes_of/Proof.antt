@@ -80,10 +80,22 @@ cast-t70 c = search needs
 cast-t72 : tie.Need-cast-t72
 cast-t72 c = search needs
 
+cast-t75 : tie.Need-cast-t75
+cast-t75 c = search needs
+
+cast-t77 : tie.Need-cast-t77
+cast-t77 c = search needs
+
+cast-t80 : tie.Need-cast-t80
+cast-t80 c = search needs
+
+cast-t82 : tie.Need-cast-t82
+cast-t82 c = search needs
+
 returns : tie.Need-returns
 unfolding bytesOf pairsOf
 returns c =
-    let s = c .before .before .before .before .before .before .before .before .stack-bytes in
+    let s = c .before .before .before .before .before .before .before .before .before .before .before .before .stack-bytes in
     rw (s .ensures)
 
 pub bytes-of-spec : {M : Type 1} → statement M
@@ -115,4 +127,8 @@ bytes-of-spec =
     cast-t67
     cast-t70
     cast-t72
+    cast-t75
+    cast-t77
+    cast-t80
+    cast-t82
     returns)

@@ -4,9 +4,12 @@ use borrow.Author.Needs.{needs}
 use Rattle.sh_state.proofs.machine.Machine.fresh.Statement.{statement}
 use Rattle.sh_state.proofs.machine.Machine.fresh.Tie as tie
 
+silent-requires : tie.Need-silent-requires
+silent-requires c κs = search needs
+
 returns : tie.Need-returns
 unfolding freshOf
-returns c = search needs
+returns c = cc
 
 pub fresh-spec : {M : Type 1} → statement M
-fresh-spec = tie.close (tie.spec returns)
+fresh-spec = tie.close (tie.spec silent-requires returns)
