@@ -5,11 +5,17 @@ use sh_rules::judge;
 use sh_rules::judge::Judged;
 use sh_run::Stop;
 use sh_state::machine::Machine;
+ghost use Prim.Native.Nat.{_≤_};
 ghost use mathlib.Core.Path.{_≡_};
+ghost use lib.ListN.{length, drop};
+ghost use Rattle.lent.specs.Lent.{both};
 ghost use Rattle.sh_rules.specs.Judge.{stateJudged};
 ghost use Rattle.sh_state.specs.State.{state};
 ghost use Rattle.sh_run.specs.Run.{runOf};
 ghost use Rattle.call_run.specs.Run.{runAnswered, reasonOf, runToldOf, unknownFrom, allKnownOf, runFoundOf, runJudgedOf, runCallOf};
+
+// How many bytes are looked at together.
+const MANY: usize = 64;
 
 // Why it stopped, or the refusal.
 pub enum Reason {
@@ -48,17 +54,34 @@ fn told(program: &[u16], m: Machine, memory: &mut [u8], script: &[u8], target: u
     }
 }
 
-// Whether every byte is an event: a pass with no way out, which the compiler does many bytes at a time.
+// Whether the bytes from a place on, below another, are events: a pass with no way out, which the compiler does many bytes at a time.
+fn known_by_one(script: &[u8], first: usize, end: usize) -> bool
+    requires { ⌜ (first ≤ end) × (end ≤ length (now script)) ⌝ }
+    ensures { λ r. ⌜ both r (allKnownOf (drop end (now (script .entry)))) ≡ allKnownOf (drop first (now (script .entry))) ⌝ }
+{
+    let mut ok = true;
+    let mut i = first;
+    while i < end {
+        ok = lent::both(sh_known::known(script[i]), ok);
+        i += 1;
+    }
+    ok
+}
+
+// Whether every byte is an event: where many stand together that are all cycles, none of them is judged.
 fn all_known(script: &[u8]) -> bool
     ensures { λ r. ⌜ r ≡ allKnownOf (now (script .entry)) ⌝ }
 {
     let mut ok = true;
     let mut i: usize = 0;
-    while i < script.len() {
-        ok = lent::both(sh_known::known(script[i]), ok);
-        i += 1;
+    while script.len() - i >= MANY {
+        let next = i + MANY;
+        if lent::joined(script, i, next) != 0 {
+            ok = lent::both(known_by_one(script, i, next), ok);
+        }
+        i = next;
     }
-    ok
+    lent::both(known_by_one(script, i, script.len()), ok)
 }
 
 // The first place of a byte that is no event, looked for one by one.
