@@ -4,7 +4,8 @@
      N options        a fresh machine, its program all NOP, the chip's own lengths lent, an empty script
      W address word   a word of the program
      M address byte   a cell, raw
-     R field number   a field of the record, in document 01's order, each stack entry and each port's pins one field
+     R field number   a field of the record, in document 01's order, each stack entry and each port's pins one field;
+                      then count and output of each sound channel
      L words cells    how many are lent
      S count event    events at the script's end
      P seed           a program drawn from the seed
@@ -17,15 +18,17 @@
 #include <stdlib.h>
 #include <string.h>
 
-enum { ROOM_WORDS = SECOND_WORDS + 1, ROOM_CELLS = SECOND_CELLS + 1, ROOM_EVENTS = 8192, FIELDS = 25 };
+enum { ROOM_WORDS = SECOND_WORDS + 1, ROOM_CELLS = SECOND_CELLS + 1, ROOM_EVENTS = 8192, FIELDS = 29 };
 
 static uint8_t program[2 * ROOM_WORDS], memory[ROOM_CELLS], record[SECOND_RECORD_BYTES], script[ROOM_EVENTS];
 static size_t words, cells, events;
 
-/* Document 01, What is lent: these fields take two bytes. */
+/* Document 01, What is lent, and 02, P1: these fields take two bytes. */
 static int field_bytes(unsigned field)
 {
-    return field == 0 || (field >= 4 && field <= 12) || field == 17 || field == 24 ? 2 : 1;
+    bool pair = field == 0 || (field >= 4 && field <= 12) || field == 17 || field == 24 || field == 25 || field == 27;
+
+    return pair ? 2 : 1;
 }
 
 static int field_place(unsigned field)
@@ -77,6 +80,7 @@ static void print_left(uint64_t done, const uint8_t *of_record, const uint8_t *o
     print_fields(of_record, " pins", 18, 21);
     print_fields(of_record, " options", 22, 22);
     print_fields(of_record, " pending", 23, 24);
+    print_fields(of_record, " tones", 25, 28);
     printf("\n  cells");
     for (size_t at = 0; at < cells; at++)
         if (of_memory[at] != 0)

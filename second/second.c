@@ -11,7 +11,8 @@ enum {
     PORTA = 0x008, PORTB = 0x009, PORTC = 0x00A, PORTD = 0x00B, BONDING = 0x00C, TBR = 0x00E, INX = 0x00F,
     DPL = 0x010, DPM = 0x011, DPH = 0x012, EDGES = 0x013, OSCX = 0x014, PACR = 0x016, PBCR = 0x017, PCCR = 0x018,
     PDCR = 0x019, RDT0 = 0x01A, RDT1 = 0x01B, RDT2 = 0x01C, RDT3 = 0x01D, WDT = 0x01E,
-    SOUND = 0x370, SOUND_END = 0x378, VOLUME = 0x377
+    SOUND = 0x370, TONE1_LOW = 0x371, TONE1_HIGH = 0x372, TONE2_LOW = 0x375, TONE2_HIGH = 0x376, VOLUME = 0x377,
+    SOUND_END = 0x378
 };
 
 /* One bit for each interrupt source, in $000 and $001 alike, and the vectors (003, 2.1 and 13.1). */
@@ -19,8 +20,12 @@ enum { EXTERNAL = 8, TIMER0 = 4, BASE = 2, PORT = 1 };
 enum { VECTOR_EXTERNAL = 1, VECTOR_TIMER0 = 2, VECTOR_BASE = 3, VECTOR_PORT = 4 };
 
 enum { TM0_RELOAD = 8, TM0_SOURCE = 7, LCDON = 4, WDF = 8, WDT_SELECT = 7, PAGE = 0x800, NO_READ = 0 };
-enum { OPTION_WATCHDOG = 1, OPTIONS_LAST = 7 };
-enum { EVENT_CYCLE = 0x00, EVENT_BASE = 0x01, EVENT_WATCHDOG = 0x02, EVENT_RESET = 0x03 };
+enum { OPTION_WATCHDOG = 1, OPTIONS_LAST = 7, TONE_COUNT_LAST = 1015 };
+enum { C1M = 1, C2M = 2, OCTAVE = 8, OCTAVE_RATIO = 8, CH1EN = 1, CH2EN = 2 }; /* of $370, $372 and $376, $377 */
+enum {
+    EVENT_CYCLE = 0x00, EVENT_BASE = 0x01, EVENT_WATCHDOG = 0x02, EVENT_RESET = 0x03, EVENT_SOUND = 0x05,
+    EVENT_PINS = 0x10, EVENT_PINS_LAST = 0x4F
+};
 
 /* Document 01's refusals that a call of this file can answer. */
 enum {
@@ -34,6 +39,43 @@ enum { TM0_PIN = 7 };
 
 static const uint8_t base_ratio[4] = {1, 4, 8, 16};
 static const uint16_t watchdog_period[8] = {4096, 1024, 256, 128, 64, 16, 4, 1};
+
+/* The value N of a tone's divider by its seven register bits, row by row as 003, section 12, prints them. N 103 is
+   printed with $19, which N 19 has too; document 02 mends it to $79. The value 0 has no N. */
+static const uint8_t divider_of[128] = {
+    [0x01] = 127, [0x16] =  95, [0x12] =  63, [0x4B] =  31,
+    [0x02] = 126, [0x2C] =  94, [0x24] =  62, [0x17] =  30,
+    [0x04] = 125, [0x59] =  93, [0x49] =  61, [0x2E] =  29,
+    [0x08] = 124, [0x33] =  92, [0x13] =  60, [0x5D] =  28,
+    [0x10] = 123, [0x67] =  91, [0x26] =  59, [0x3B] =  27,
+    [0x20] = 122, [0x4E] =  90, [0x4D] =  58, [0x77] =  26,
+    [0x41] = 121, [0x1D] =  89, [0x1B] =  57, [0x6E] =  25,
+    [0x03] = 120, [0x3A] =  88, [0x36] =  56, [0x5C] =  24,
+    [0x06] = 119, [0x75] =  87, [0x6D] =  55, [0x39] =  23,
+    [0x0C] = 118, [0x6A] =  86, [0x5A] =  54, [0x73] =  22,
+    [0x18] = 117, [0x54] =  85, [0x35] =  53, [0x66] =  21,
+    [0x30] = 116, [0x29] =  84, [0x6B] =  52, [0x4C] =  20,
+    [0x61] = 115, [0x53] =  83, [0x56] =  51, [0x19] =  19,
+    [0x42] = 114, [0x27] =  82, [0x2D] =  50, [0x32] =  18,
+    [0x05] = 113, [0x4F] =  81, [0x5B] =  49, [0x65] =  17,
+    [0x0A] = 112, [0x1F] =  80, [0x37] =  48, [0x4A] =  16,
+    [0x14] = 111, [0x3E] =  79, [0x6F] =  47, [0x15] =  15,
+    [0x28] = 110, [0x7D] =  78, [0x5E] =  46, [0x2A] =  14,
+    [0x51] = 109, [0x7A] =  77, [0x3D] =  45, [0x55] =  13,
+    [0x23] = 108, [0x74] =  76, [0x7B] =  44, [0x2B] =  12,
+    [0x47] = 107, [0x68] =  75, [0x76] =  43, [0x57] =  11,
+    [0x0F] = 106, [0x50] =  74, [0x6C] =  42, [0x2F] =  10,
+    [0x1E] = 105, [0x21] =  73, [0x58] =  41, [0x5F] =   9,
+    [0x3C] = 104, [0x43] =  72, [0x31] =  40, [0x3F] =   8,
+    [0x79] = 103, [0x07] =  71, [0x63] =  39, [0x7F] =   7,
+    [0x72] = 102, [0x0E] =  70, [0x46] =  38, [0x7E] =   6,
+    [0x64] = 101, [0x1C] =  69, [0x0D] =  37, [0x7C] =   5,
+    [0x48] = 100, [0x38] =  68, [0x1A] =  36, [0x78] =   4,
+    [0x11] =  99, [0x71] =  67, [0x34] =  35, [0x70] =   3,
+    [0x22] =  98, [0x62] =  66, [0x69] =  34, [0x60] =   2,
+    [0x45] =  97, [0x44] =  65, [0x52] =  33, [0x40] =   1,
+    [0x0B] =  96, [0x09] =  64, [0x25] =  32,
+};
 
 #define SIXTEEN(bits) bits, bits, bits, bits, bits, bits, bits, bits, bits, bits, bits, bits, bits, bits, bits, bits
 
@@ -102,15 +144,40 @@ static uint16_t period_of(const struct second_machine *m)
     return watchdog_period[m->cell[WDT] & WDT_SELECT];
 }
 
-/* ---- Reset (003, table 3.3; 01, Reset) ---- */
+/* ---- Sound (003, section 12; 02, P1) ---- */
+
+static void clock_tone(struct second_tone *tone, unsigned low, unsigned high)
+{
+    unsigned divider = divider_of[(high & 7) << 4 | low];
+
+    if (divider == 0)
+        return;
+    if (tone->count == 0)
+        tone->count = (uint16_t)(high & OCTAVE ? OCTAVE_RATIO * divider : divider);
+    if (--tone->count == 0)
+        tone->output ^= 1;
+}
+
+/* In noise or alarm mode channel 2 is no tone, and channel 1 goes on. */
+static void clock_sound(struct second_machine *m)
+{
+    if (m->mode == SECOND_STOP)
+        return;
+    if (m->cell[VOLUME] & CH1EN)
+        clock_tone(&m->tone[0], m->cell[TONE1_LOW], m->cell[TONE1_HIGH]);
+    if ((m->cell[VOLUME] & CH2EN) && !(m->cell[SOUND] & (C1M | C2M)))
+        clock_tone(&m->tone[1], m->cell[TONE2_LOW], m->cell[TONE2_HIGH]);
+}
+
+/* ---- Reset (003, table 3.3; 01, Reset; 02, P1) ---- */
 
 static uint8_t bonding_of(const struct second_machine *m)
 {
     return m->options >> 1 & 3;
 }
 
-/* What the table leaves out and document 01 settles for both kinds. It comes after the cells, since the period hangs
-   on $01E. */
+/* What the table leaves out and documents 01 and 02 settle for both kinds. It comes after the cells, since the period
+   hangs on $01E. */
 static void reset_registers(struct second_machine *m)
 {
     m->pc = 0;
@@ -125,6 +192,7 @@ static void reset_registers(struct second_machine *m)
     m->base_counter = 0;
     m->pending = 0;
     m->pending_address = NO_READ;
+    memset(m->tone, 0, sizeof m->tone);
     m->watchdog = period_of(m);
 }
 
@@ -539,12 +607,16 @@ static inline bool cycle(struct second_machine *m, const uint8_t *program)
 
 static bool is_known(uint8_t event)
 {
-    return event <= EVENT_RESET || (0x10 <= event && event <= 0x4F);
+    return event <= EVENT_RESET || event == EVENT_SOUND || (EVENT_PINS <= event && event <= EVENT_PINS_LAST);
 }
 
 /* Every event but the cycle: none of these can be refused. */
 static void apply_other(struct second_machine *m, uint8_t event)
 {
+    if (event >= EVENT_PINS) {
+        change_pins(m, (event - EVENT_PINS) >> 4, event & 15);
+        return;
+    }
     switch (event) {
     case EVENT_BASE:
         pulse_base(m);
@@ -556,7 +628,7 @@ static void apply_other(struct second_machine *m, uint8_t event)
         reset_by_pin(m);
         break;
     default:
-        change_pins(m, (event >> 4) - 1u, event & 15);
+        clock_sound(m);
         break;
     }
 }
@@ -630,7 +702,11 @@ void second_unpack(struct second_machine *machine, const uint8_t *memory, const 
         from = take_byte(from, &machine->pins[port]);
     from = take_byte(from, &machine->options);
     from = take_byte(from, &machine->pending);
-    (void)take_pair(from, &machine->pending_address);
+    from = take_pair(from, &machine->pending_address);
+    for (int channel = 0; channel < SECOND_TONES; channel++) {
+        from = take_pair(from, &machine->tone[channel].count);
+        from = take_byte(from, &machine->tone[channel].output);
+    }
 }
 
 void second_pack(const struct second_machine *machine, uint8_t *memory, uint8_t *record)
@@ -654,7 +730,11 @@ void second_pack(const struct second_machine *machine, uint8_t *memory, uint8_t 
         to = give_byte(to, machine->pins[port]);
     to = give_byte(to, machine->options);
     to = give_byte(to, machine->pending);
-    (void)give_pair(to, machine->pending_address);
+    to = give_pair(to, machine->pending_address);
+    for (int channel = 0; channel < SECOND_TONES; channel++) {
+        to = give_pair(to, machine->tone[channel].count);
+        to = give_byte(to, machine->tone[channel].output);
+    }
 }
 
 static bool is_well_formed(const struct second_machine *m)
@@ -681,6 +761,9 @@ static bool is_well_formed(const struct second_machine *m)
         return false;
     if (m->pending > 1 || m->pending_address >= SECOND_WORDS)
         return false;
+    for (int channel = 0; channel < SECOND_TONES; channel++)
+        if (m->tone[channel].count > TONE_COUNT_LAST || m->tone[channel].output > 1)
+            return false;
     return m->pending || m->pending_address == NO_READ;
 }
 

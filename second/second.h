@@ -1,4 +1,4 @@
-/* An emulator of the SH67P54 after documents 01 and 003, written apart from the proved one so that the two can be
+/* An emulator of the SH67P54 after documents 01, 02 and 003, written apart from the proved one so that the two can be
    held against each other. */
 #ifndef SECOND_SECOND_H
 #define SECOND_SECOND_H
@@ -11,7 +11,8 @@
 #define SECOND_PROGRAM_BYTES (2 * SECOND_WORDS)
 #define SECOND_CELLS         1024
 #define SECOND_LEVELS        8
-#define SECOND_RECORD_BYTES  37
+#define SECOND_TONES         2
+#define SECOND_RECORD_BYTES  43
 
 enum second_reason { SECOND_AT_ADDRESS = 0, SECOND_AT_UNLISTED = 1, SECOND_AT_END = 2 };
 enum second_mode { SECOND_RUNNING = 0, SECOND_HALT = 1, SECOND_STOP = 2 };
@@ -50,6 +51,12 @@ uint32_t second_book_write(const uint8_t *program, size_t program_len, const uin
                            const uint8_t *level, size_t level_len, uint8_t *book, size_t room,
                            uint64_t *count, uint64_t *value);
 
+/* One sound channel: the clocks left up to the next turn of its output, and the output. */
+struct second_tone {
+    uint16_t count;
+    uint8_t output;
+};
+
 /* The machine taken apart, for callers that keep it so between runs. Nothing below judges what it is given. */
 struct second_machine {
     uint16_t pc;
@@ -67,6 +74,7 @@ struct second_machine {
     uint16_t timer0_prescaler;
     uint16_t watchdog;
     uint16_t stack[SECOND_LEVELS];
+    struct second_tone tone[SECOND_TONES];
     uint8_t cell[SECOND_CELLS];
 };
 

@@ -1,5 +1,5 @@
 /* Worked cases for the second emulator. Every expected value was taken by hand from the documents; the words given to
-   from() name the place: "01" and "003" are the documents, "reading" a reading of 01 by its number in
+   from() name the place: "01", "02" and "003" are the documents, "reading" a reading of 01 by its number in
    docs/DECISIONS.md. */
 #include "instruction.h"
 #include "search.h"
@@ -32,17 +32,18 @@ static void is(const char *what, long long got, long long wanted)
 
 /* ---- A desk with one machine on it ---- */
 
-static uint8_t program[8192], memory[1024], record[37];
+static uint8_t program[8192], memory[1024], record[43];
 static uint64_t told; /* the value of the last call */
 
-/* Where each field of the record begins (01, What is lent: 37 bytes, fields in that order). */
+/* Where each field of the record begins (01, What is lent: fields in that order; 02, P1: 43 bytes). */
 enum {
     R_PC = 0, R_AC = 2, R_CY = 3, R_MODE = 4, R_STACK = 5, R_T0_PRESCALER = 21, R_T0_COUNTER = 23, R_T0_LOAD = 24,
     R_BASE_PRESCALER = 25, R_BASE_COUNTER = 26, R_WATCHDOG = 27, R_PIN_A = 29, R_PIN_B = 30, R_PIN_C = 31,
-    R_PIN_D = 32, R_OPTIONS = 33, R_PENDING = 34, R_PENDING_ADDRESS = 35
+    R_PIN_D = 32, R_OPTIONS = 33, R_PENDING = 34, R_PENDING_ADDRESS = 35, R_COUNT_1 = 37, R_OUTPUT_1 = 39,
+    R_COUNT_2 = 40, R_OUTPUT_2 = 42
 };
 enum { RUNNING = 0, IN_HALT = 1, IN_STOP = 2 };
-enum { CYCLE = 0x00, BASE_PULSE = 0x01, WATCHDOG_PULSE = 0x02, RESET_PIN = 0x03 };
+enum { CYCLE = 0x00, BASE_PULSE = 0x01, WATCHDOG_PULSE = 0x02, RESET_PIN = 0x03, SOUND_CLOCK = 0x05 };
 enum { PIN_A = 0x10, PIN_B = 0x20, PIN_C = 0x30, PIN_D = 0x40 };
 enum { NO_STOP = 4096 };
 
@@ -1086,6 +1087,10 @@ static void before_reset(void)
     record[R_PIN_D] = 8;
     record[R_PENDING] = 1;
     set_two(R_PENDING_ADDRESS, 0x123);
+    set_two(R_COUNT_1, 1015);
+    record[R_OUTPUT_1] = 1;
+    set_two(R_COUNT_2, 512);
+    record[R_OUTPUT_2] = 1;
 }
 
 static void after_reset(void)
@@ -1108,6 +1113,11 @@ static void after_reset(void)
     is("watchdog", two(R_WATCHDOG), 4096);
     is("pending read", record[R_PENDING], 0);
     is("its address", two(R_PENDING_ADDRESS), 0);
+    from("02, P1: 0 after any reset");
+    is("count of channel 1", two(R_COUNT_1), 0);
+    is("output of channel 1", record[R_OUTPUT_1], 0);
+    is("count of channel 2", two(R_COUNT_2), 0);
+    is("output of channel 2", record[R_OUTPUT_2], 0);
     from("01, Reset: pins and cells stay");
     is("pins A", record[R_PIN_A], 1);
     is("pins B", record[R_PIN_B], 2);
@@ -1161,7 +1171,7 @@ static void resets(void)
         is("options", record[R_OPTIONS], options);
         is("watchdog", two(R_WATCHDOG), 4096);
         other = 0;
-        for (int at = 0; at < 37; at++)
+        for (int at = 0; at < 43; at++)
             other += at != R_OPTIONS && at != R_WATCHDOG && record[at] != 0;
         is("other record bytes that aren't 0", other, 0);
         is("a cycle", step(CYCLE), 0);
@@ -1243,7 +1253,7 @@ static void interrupts(void)
 static void asleep(void)
 {
     uint8_t memory_before[1024];
-    uint8_t record_before[37];
+    uint8_t record_before[43];
 
     from("003, 14; reading 1: the cycle that executes HALT does (e)");
     fresh();
@@ -1503,6 +1513,312 @@ static void edges(void)
     is("$001", memory[0x001], 1);
 }
 
+/* ---- Sound ---- */
+
+/* Channel 1 or 2 sounds by these seven bits and this octave bit. */
+static void tone(int channel, unsigned value, unsigned octave)
+{
+    unsigned low = channel == 1 ? 0x371 : 0x375;
+
+    memory[low] = value & 15;
+    memory[low + 1] = (uint8_t)(octave << 3 | value >> 4);
+    memory[0x377] |= (uint8_t)channel;
+}
+
+static unsigned count_of(int channel)
+{
+    return two(channel == 1 ? R_COUNT_1 : R_COUNT_2);
+}
+
+static unsigned output_of(int channel)
+{
+    return record[channel == 1 ? R_OUTPUT_1 : R_OUTPUT_2];
+}
+
+/* From a fresh machine the output turns after the clock with this number, and again after as many. */
+static void turns_after(int channel, unsigned value, unsigned octave, int clocks)
+{
+    fresh();
+    tone(channel, value, octave);
+    events(SOUND_CLOCK, clocks - 1);
+    is("output before its turn", output_of(channel), 0);
+    is("count before its turn", count_of(channel), clocks > 1);
+    events(SOUND_CLOCK, 1);
+    is("output", output_of(channel), 1);
+    is("count", count_of(channel), 0);
+    events(SOUND_CLOCK, clocks - 1);
+    is("output before its second turn", output_of(channel), 1);
+    events(SOUND_CLOCK, 1);
+    is("output after its second turn", output_of(channel), 0);
+}
+
+static void tones(void)
+{
+    static const struct {
+        uint8_t value, n;
+    } printed[] = {{0x01, 127}, {0x02, 126}, {0x41, 121}, {0x03, 120}, {0x23, 108}, {0x3C, 104}, {0x79, 103},
+                   {0x72, 102}, {0x0B, 96},  {0x16, 95},  {0x4F, 81},  {0x50, 74},  {0x09, 64},  {0x12, 63},
+                   {0x25, 32},  {0x4B, 31},  {0x19, 19},  {0x7F, 7},   {0x7E, 6},   {0x78, 4},   {0x60, 2},
+                   {0x40, 1}};
+    unsigned value = 0x01;
+
+    from("003, 12, the table of N; 02, P1: $79 at N 103");
+    for (size_t at = 0; at < sizeof printed / sizeof printed[0]; at++)
+        for (int channel = 1; channel <= 2; channel++)
+            turns_after(channel, printed[at].value, 0, printed[at].n);
+
+    from("003, 12, OCT1 and OCT2: 1/8");
+    turns_after(1, 0x23, 1, 864);  /* example 4: C2 at 112.5 kHz */
+    turns_after(2, 0x23, 1, 864);
+    turns_after(1, 0x01, 1, 1016);
+    turns_after(2, 0x01, 1, 1016);
+    turns_after(1, 0x40, 1, 8);
+    turns_after(2, 0x40, 1, 8);
+
+    from("02, P1: shift left within seven bits, the new low bit the exclusive or of the two top bits");
+    for (int n = 127; n >= 1; n--) {
+        turns_after(1, value, 0, n);
+        value = (value << 1 & 0x7F) | ((value >> 6 ^ value >> 5) & 1);
+    }
+    is("the value after $40", value, 0x01);
+}
+
+/* What one sound clock makes of a channel by the registers that it meets. */
+static void one_clock(void)
+{
+    from("02, P1: a count of 0 is first set by the registers as they stand");
+    fresh();
+    tone(1, 0x7F, 0);
+    events(SOUND_CLOCK, 1);
+    is("7, less one", count_of(1), 6);
+    is("output", output_of(1), 0);
+    tone(1, 0x01, 1);
+    is("a register moves no count", count_of(1), 6);
+    events(SOUND_CLOCK, 5);
+    is("the old count goes on", count_of(1), 1);
+    events(SOUND_CLOCK, 1);
+    is("at 0", count_of(1), 0);
+    is("the output turns", output_of(1), 1);
+    events(SOUND_CLOCK, 1);
+    is("8 x 127, less one", count_of(1), 1015);
+    is("output", output_of(1), 1);
+
+    from("02, P1: a store moves neither count nor output");
+    for (unsigned address = 0x370; address <= 0x377; address++) {
+        fresh();
+        put(0, made(STA, address, 0));
+        record[R_AC] = 15;
+        set_two(R_COUNT_1, 5);
+        record[R_OUTPUT_1] = 1;
+        set_two(R_COUNT_2, 9);
+        record[R_OUTPUT_2] = 1;
+        events(CYCLE, 1);
+        is("the register", memory[address], 15);
+        is("count of channel 1", count_of(1), 5);
+        is("output of channel 1", output_of(1), 1);
+        is("count of channel 2", count_of(2), 9);
+        is("output of channel 2", output_of(2), 1);
+    }
+
+    from("02, P1: N 1 turns at each clock and leaves 0");
+    fresh();
+    tone(1, 0x40, 0);
+    for (int clock = 1; clock <= 4; clock++) {
+        events(SOUND_CLOCK, 1);
+        is("count", count_of(1), 0);
+        is("output", output_of(1), clock % 2);
+    }
+
+    from("02, P1: nothing ties a count to N");
+    fresh();
+    tone(2, 0x40, 0);
+    set_two(R_COUNT_2, 1015);
+    events(SOUND_CLOCK, 1);
+    is("count", count_of(2), 1014);
+
+    from("02, P1: channel 2 uses C2.14-C2.8; $373, $374, SEL and VOL play no part");
+    fresh();
+    tone(2, 0x7F, 0);
+    memory[0x373] = 15;
+    memory[0x374] = 15;
+    memory[0x370] = 12;
+    memory[0x377] |= 12;
+    events(SOUND_CLOCK, 1);
+    is("7, less one", count_of(2), 6);
+
+    from("02, P1: each channel by itself");
+    fresh();
+    tone(1, 0x60, 0);
+    tone(2, 0x70, 0);
+    events(SOUND_CLOCK, 3);
+    is("count of channel 1", count_of(1), 1);
+    is("output of channel 1", output_of(1), 1);
+    is("count of channel 2", count_of(2), 0);
+    is("output of channel 2", output_of(2), 1);
+}
+
+/* A channel as it stands after clocks that must leave it. */
+static void holds_still(int channel, int clocks)
+{
+    unsigned count = count_of(channel), output = output_of(channel);
+
+    events(SOUND_CLOCK, clocks);
+    is("count that is held", count_of(channel), count);
+    is("output that is held", output_of(channel), output);
+}
+
+/* Both channels in the middle of a tone, channel 1 with 4 clocks left and channel 2 with 1. */
+static void two_tones(void)
+{
+    fresh();
+    tone(1, 0x7F, 0);
+    tone(2, 0x7F, 0);
+    set_two(R_COUNT_1, 4);
+    record[R_OUTPUT_1] = 1;
+    set_two(R_COUNT_2, 1);
+}
+
+static void channels_hold(void)
+{
+    from("02, P1: a channel holds when disabled");
+    two_tones();
+    memory[0x377] = 2;
+    holds_still(1, 3);
+    is("channel 2 goes on", output_of(2), 1);
+    two_tones();
+    memory[0x377] = 1;
+    holds_still(2, 3);
+    is("channel 1 goes on", count_of(1), 1);
+    memory[0x377] = 12;
+    holds_still(1, 3);
+    holds_still(2, 3);
+
+    from("02, P1: a channel holds when its seven bits are 0, whatever the octave bit");
+    for (unsigned octave = 0; octave < 2; octave++) {
+        two_tones();
+        tone(1, 0, octave);
+        holds_still(1, 3);
+        set_two(R_COUNT_1, 0);
+        holds_still(1, 3);
+        two_tones();
+        tone(2, 0, octave);
+        holds_still(2, 3);
+        set_two(R_COUNT_2, 0);
+        holds_still(2, 3);
+    }
+
+    from("02, P1: channel 2 holds when C1M or C2M is 1; C1M does not stop channel 1");
+    for (uint8_t mode = 1; mode < 4; mode++) {
+        two_tones();
+        memory[0x370] = mode;
+        holds_still(2, 3);
+        is("channel 1 goes on", count_of(1), 1);
+        set_two(R_COUNT_2, 0);
+        holds_still(2, 1);
+        is("channel 1 turns", output_of(1), 0);
+        memory[0x370] = 0;
+        events(SOUND_CLOCK, 1);
+        is("channel 2 goes on after it", count_of(2), 6);
+    }
+}
+
+static void sound_and_modes(void)
+{
+    static const uint8_t script[] = {SOUND_CLOCK, SOUND_CLOCK, CYCLE, SOUND_CLOCK};
+    uint8_t memory_before[1024];
+    uint8_t record_before[43];
+
+    from("02, P1: idle in STOP");
+    two_tones();
+    record[R_MODE] = IN_STOP;
+    memcpy(memory_before, memory, sizeof memory);
+    memcpy(record_before, record, sizeof record);
+    is("known in STOP", step(SOUND_CLOCK), 0);
+    events(SOUND_CLOCK, 9);
+    is("memory changed", memcmp(memory, memory_before, sizeof memory) != 0, 0);
+    is("record changed", memcmp(record, record_before, sizeof record) != 0, 0);
+
+    from("02, P1: HALT does not stop sound");
+    record[R_MODE] = IN_HALT;
+    events(SOUND_CLOCK, 4);
+    is("count of channel 1", count_of(1), 0);
+    is("output of channel 1", output_of(1), 0);
+    is("asleep still", record[R_MODE], IN_HALT);
+
+    from("02, P1: a sound clock moves the channels alone");
+    two_tones();
+    memcpy(memory_before, memory, sizeof memory);
+    memcpy(record_before, record, sizeof record);
+    events(SOUND_CLOCK, 1);
+    is("memory changed, so that nothing is requested", memcmp(memory, memory_before, sizeof memory) != 0, 0);
+    is("other fields changed", memcmp(record, record_before, R_COUNT_1) != 0, 0);
+    is("count of channel 1", count_of(1), 3);
+    is("output of channel 2", output_of(2), 1);
+
+    from("02, P1: a cycle moves no channel");
+    events(CYCLE, 3);
+    is("count of channel 1", count_of(1), 3);
+    is("output of channel 2", output_of(2), 1);
+
+    from("02, P1: $05 is an event done, and the stop address is not looked at after it");
+    fresh();
+    is("answer", run(script, 4, 0), 0);
+    is("reason", reason, 2);
+    is("events", (long long)done_events, 4);
+    fresh();
+    is("answer", run(script, 4, 1), 0);
+    is("after the cycle it is", reason, 0);
+    is("events", (long long)done_events, 3);
+
+    from("01, One instruction: $370-$377 read 0, a memory form starts from 0");
+    fresh();
+    tone(1, 0x7F, 1);
+    put(0, made(LDA, 0x377, 0));
+    put(1, made(ORM, 0x377, 0));
+    record[R_AC] = 5;
+    events(CYCLE, 1);
+    is("LDA of the enables", record[R_AC], 0);
+    record[R_AC] = 2;
+    events(CYCLE, 1);
+    is("ORM leaves channel 2 alone enabled", memory[0x377], 2);
+    holds_still(1, 3);
+}
+
+static void resets_and_sound(void)
+{
+    from("02, P1; 003, table 3.3: after a pin reset both channels are off and at 0");
+    two_tones();
+    events(RESET_PIN, 1);
+    is("$377", memory[0x377], 0);
+    holds_still(1, 3);
+    is("count of channel 1", count_of(1), 0);
+    is("output of channel 1", output_of(1), 0);
+
+    from("02, P1; 003, table 3.3: after a watchdog reset the tone's registers stay and its channels are off and at 0");
+    fresh_with(1);
+    tone(1, 0x7F, 0);
+    set_two(R_COUNT_1, 4);
+    record[R_OUTPUT_1] = 1;
+    set_two(R_WATCHDOG, 1);
+    events(WATCHDOG_PULSE, 1);
+    is("$371", memory[0x371], 15);
+    is("$377", memory[0x377], 0);
+    is("count of channel 1", count_of(1), 0);
+    is("output of channel 1", output_of(1), 0);
+    memory[0x377] = 1;
+    events(SOUND_CLOCK, 1);
+    is("a new tone begins with N", count_of(1), 6);
+}
+
+static void sound(void)
+{
+    tones();
+    one_clock();
+    channels_hold();
+    sound_and_modes();
+    resets_and_sound();
+}
+
 /* ---- Runs ---- */
 
 static void runs(void)
@@ -1511,7 +1827,7 @@ static void runs(void)
     static const uint8_t mixed[] = {CYCLE, WATCHDOG_PULSE, CYCLE, PIN_B | 1, CYCLE};
     static const uint8_t pulse_then_cycle[] = {WATCHDOG_PULSE, CYCLE};
     static const uint8_t unknown_late[] = {CYCLE, CYCLE, 0x50};
-    uint8_t record_before[37];
+    uint8_t record_before[43];
 
     from("01, a run stops at the script's end");
     fresh();
@@ -1633,7 +1949,7 @@ static uint32_t refused_alike(void)
 {
     static const uint8_t one_cycle[1] = {CYCLE};
     uint8_t memory_before[1024];
-    uint8_t record_before[37];
+    uint8_t record_before[43];
     uint32_t by_step, by_run;
     uint64_t told_by_step;
 
@@ -1744,6 +2060,16 @@ static void record_refusals(void)
         {"BD1 against $00C", 0x00C, 0xE, R_OPTIONS, false, 5, 3},
         {"pending", 0x3FF, 0, R_PENDING, false, 1, 2},
         {"pending address, none pending", 0x3FF, 0, R_PENDING_ADDRESS, true, 0, 1},
+        {"count of channel 1, disabled", 0x3FF, 0, R_COUNT_1, true, 1015, 1016},
+        {"count of channel 1, enabled", 0x377, 1, R_COUNT_1, true, 1015, 1016},
+        {"count of channel 1, any high byte", 0x3FF, 0, R_COUNT_1, true, 1015, 0x8000},
+        {"output of channel 1", 0x377, 1, R_OUTPUT_1, false, 1, 2},
+        {"output of channel 1, no bit but the lowest", 0x3FF, 0, R_OUTPUT_1, false, 0, 0x80},
+        {"count of channel 2, disabled", 0x3FF, 0, R_COUNT_2, true, 1015, 1016},
+        {"count of channel 2, held by C2M", 0x370, 2, R_COUNT_2, true, 1015, 1016},
+        {"count of channel 2, any high byte", 0x3FF, 0, R_COUNT_2, true, 1015, 0xFFFF},
+        {"output of channel 2", 0x377, 2, R_OUTPUT_2, false, 1, 2},
+        {"output of channel 2, no bit but the lowest", 0x3FF, 0, R_OUTPUT_2, false, 0, 0xFE},
     };
 
     from("01, What is lent, Machine record; What comes back, 4");
@@ -1778,10 +2104,12 @@ static void record_refusals(void)
     set_two(R_PENDING_ADDRESS, 4096);
     is("4096", refused_alike(), 4);
 
-    from("01, What comes back, 4: record bytes not 37");
+    from("02, P1: the record is 43 bytes; another length is 4");
     fresh();
-    is("36", second_step(program, 8192, memory, 1024, record, 36, CYCLE, &told), 4);
+    is("37", second_step(program, 8192, memory, 1024, record, 37, CYCLE, &told), 4);
     is("value", (long long)told, 0);
+    is("42", second_step(program, 8192, memory, 1024, record, 42, CYCLE, &told), 4);
+    is("44", second_step(program, 8192, memory, 1024, record, 44, CYCLE, &told), 4);
 }
 
 static void call_refusals(void)
@@ -1793,20 +2121,20 @@ static void call_refusals(void)
     memory[0x004] = 1;
     record[R_AC] = 16;
     told = 99;
-    is("1", second_step(program, 8190, memory, 1023, record, 36, 0x50, &told), 1);
+    is("1", second_step(program, 8190, memory, 1023, record, 42, 0x50, &told), 1);
     is("told in bytes", (long long)told, 8190);
-    is("1 for words' number", second_step(program, 4096, memory, 1024, record, 37, CYCLE, &told), 1);
+    is("1 for words' number", second_step(program, 4096, memory, 1024, record, 43, CYCLE, &told), 1);
     is("told in bytes", (long long)told, 4096);
-    is("2", second_step(program, 8192, memory, 1023, record, 36, 0x50, &told), 2);
+    is("2", second_step(program, 8192, memory, 1023, record, 42, 0x50, &told), 2);
     is("length", (long long)told, 1023);
-    is("3", second_step(program, 8192, memory, 1024, record, 36, 0x50, &told), 3);
+    is("3", second_step(program, 8192, memory, 1024, record, 42, 0x50, &told), 3);
     is("address", (long long)told, 4);
     memory[0x004] = 0;
-    is("4 by length", second_step(program, 8192, memory, 1024, record, 38, 0x50, &told), 4);
-    is("4 by a field", second_step(program, 8192, memory, 1024, record, 37, 0x50, &told), 4);
+    is("4 by length", second_step(program, 8192, memory, 1024, record, 44, 0x50, &told), 4);
+    is("4 by a field", second_step(program, 8192, memory, 1024, record, 43, 0x50, &told), 4);
     record[R_AC] = 0;
     put(0, 0xC800);
-    is("5", second_step(program, 8192, memory, 1024, record, 37, 0x50, &told), 5);
+    is("5", second_step(program, 8192, memory, 1024, record, 43, 0x50, &told), 5);
     is("place", (long long)told, 0);
     is("6", refused_alike(), 6);
     is("address", (long long)told, 0);
@@ -1816,10 +2144,10 @@ static void call_refusals(void)
     is("length", (long long)told, 0);
     is("run: 4", second_run(program, 8192, memory, 1024, record, 0, one_cycle, 1, 0, &reason, &done_events, &told), 4);
 
-    from("01, Events: other bytes are unknown");
+    from("01, Events; 02, P1: other bytes are unknown, $04 too");
     fresh();
     for (unsigned event = 0; event < 256; event++) {
-        bool known = event <= 3 || (event >= 0x10 && event <= 0x4F);
+        bool known = event <= 3 || event == 5 || (event >= 0x10 && event <= 0x4F);
 
         told = 99;
         is("an event byte", step((uint8_t)event), known ? 0 : 5);
@@ -1838,17 +2166,17 @@ static void call_refusals(void)
     from("reading 20: fresh");
     memset(memory, 0xEE, sizeof memory);
     memset(record, 0xEE, sizeof record);
-    is("2", second_fresh(memory, 1000, record, 36, 8, &told), 2);
+    is("2", second_fresh(memory, 1000, record, 42, 8, &told), 2);
     is("length", (long long)told, 1000);
-    is("4", second_fresh(memory, 1024, record, 36, 8, &told), 4);
+    is("4", second_fresh(memory, 1024, record, 42, 8, &told), 4);
     is("value", (long long)told, 0);
-    is("12", second_fresh(memory, 1024, record, 37, 8, &told), 12);
+    is("12", second_fresh(memory, 1024, record, 43, 8, &told), 12);
     is("options", (long long)told, 8);
-    is("12", second_fresh(memory, 1024, record, 37, 0xFFFFFFFF, &told), 12);
+    is("12", second_fresh(memory, 1024, record, 43, 0xFFFFFFFF, &told), 12);
     is("options", (long long)told, 0xFFFFFFFF);
     is("memory is left", memory[0x013], 0xEE);
     is("record is left", record[0], 0xEE);
-    is("done", second_fresh(memory, 1024, record, 37, 7, &told), 0);
+    is("done", second_fresh(memory, 1024, record, 43, 7, &told), 0);
     is("value", (long long)told, 0);
 }
 
@@ -2009,7 +2337,7 @@ static void pictures(void)
     memory[0x348] = 8;
     memory[0x007] = 4;
     memset(picture, 0xEE, sizeof picture);
-    is("done", second_picture(memory, 1024, record, 37, wiring, 9, picture, 3, &count, &told), 0);
+    is("done", second_picture(memory, 1024, record, 43, wiring, 9, picture, 3, &count, &told), 0);
     is("count", (long long)count, 3);
     is("first", picture[0], 1);
     is("second", picture[1], 1);
@@ -2017,49 +2345,49 @@ static void pictures(void)
     is("beyond", picture[3], 0xEE);
     memory[0x300] = 14;
     memory[0x348] = 7;
-    is("done", second_picture(memory, 1024, record, 37, wiring, 9, picture, 3, &count, &told), 0);
+    is("done", second_picture(memory, 1024, record, 43, wiring, 9, picture, 3, &count, &told), 0);
     is("first", picture[0], 0);
     is("second", picture[1], 0);
     from("01, Panel book: all 0 when LCDON is 0 or in STOP");
     memory[0x300] = 15;
     memory[0x007] = 3;
     picture[0] = 0xEE;
-    is("done", second_picture(memory, 1024, record, 37, wiring, 9, picture, 3, &count, &told), 0);
+    is("done", second_picture(memory, 1024, record, 43, wiring, 9, picture, 3, &count, &told), 0);
     is("LCDON 0", picture[0], 0);
     memory[0x007] = 7;
     record[R_MODE] = IN_STOP;
     picture[0] = 0xEE;
-    is("done", second_picture(memory, 1024, record, 37, wiring, 9, picture, 3, &count, &told), 0);
+    is("done", second_picture(memory, 1024, record, 43, wiring, 9, picture, 3, &count, &told), 0);
     is("STOP", picture[0], 0);
     record[R_MODE] = IN_HALT;
-    is("done", second_picture(memory, 1024, record, 37, wiring, 9, picture, 3, &count, &told), 0);
+    is("done", second_picture(memory, 1024, record, 43, wiring, 9, picture, 3, &count, &told), 0);
     is("HALT shows", picture[0], 1);
 
     from("reading 21: picture, 2, 3, 4, 10, 11, 7");
     picture[0] = 0xEE;
     count = 99;
-    is("7", second_picture(memory, 1024, record, 37, wiring, 9, picture, 2, &count, &told), 7);
+    is("7", second_picture(memory, 1024, record, 43, wiring, 9, picture, 2, &count, &told), 7);
     is("room needed", (long long)told, 3);
     is("count is left", (long long)count, 99);
     is("picture is left", picture[0], 0xEE);
-    is("11, bit", second_picture(memory, 1024, record, 37, bad_bit, 6, picture, 0, &count, &told), 11);
+    is("11, bit", second_picture(memory, 1024, record, 43, bad_bit, 6, picture, 0, &count, &told), 11);
     is("kind", (long long)told, 2);
-    is("11, address", second_picture(memory, 1024, record, 37, not_display, 6, picture, 9, &count, &told), 11);
-    is("11, scan cell", second_picture(memory, 1024, record, 37, scan_cell, 3, picture, 9, &count, &told), 11);
-    is("10, not of threes", second_picture(memory, 1024, record, 37, bad_bit, 5, picture, 9, &count, &told), 10);
+    is("11, address", second_picture(memory, 1024, record, 43, not_display, 6, picture, 9, &count, &told), 11);
+    is("11, scan cell", second_picture(memory, 1024, record, 43, scan_cell, 3, picture, 9, &count, &told), 11);
+    is("10, not of threes", second_picture(memory, 1024, record, 43, bad_bit, 5, picture, 9, &count, &told), 10);
     is("value", (long long)told, 0);
-    is("10, none", second_picture(memory, 1024, record, 37, wiring, 0, picture, 9, &count, &told), 10);
+    is("10, none", second_picture(memory, 1024, record, 43, wiring, 0, picture, 9, &count, &told), 10);
     for (int element = 0; element < 241; element++)
         many[3 * element] = 3;
-    is("240 elements", second_picture(memory, 1024, record, 37, many, 720, picture, 240, &count, &told), 0);
+    is("240 elements", second_picture(memory, 1024, record, 43, many, 720, picture, 240, &count, &told), 0);
     is("count", (long long)count, 240);
-    is("10, 241 elements", second_picture(memory, 1024, record, 37, many, 723, picture, 241, &count, &told), 10);
+    is("10, 241 elements", second_picture(memory, 1024, record, 43, many, 723, picture, 241, &count, &told), 10);
     record[R_CY] = 2;
-    is("4", second_picture(memory, 1024, record, 37, wiring, 0, picture, 9, &count, &told), 4);
-    is("4 by length", second_picture(memory, 1024, record, 36, wiring, 0, picture, 9, &count, &told), 4);
+    is("4", second_picture(memory, 1024, record, 43, wiring, 0, picture, 9, &count, &told), 4);
+    is("4 by length", second_picture(memory, 1024, record, 42, wiring, 0, picture, 9, &count, &told), 4);
     memory[0x005] = 1;
-    is("3", second_picture(memory, 1024, record, 36, wiring, 0, picture, 9, &count, &told), 3);
-    is("2", second_picture(memory, 1025, record, 36, wiring, 0, picture, 9, &count, &told), 2);
+    is("3", second_picture(memory, 1024, record, 42, wiring, 0, picture, 9, &count, &told), 3);
+    is("2", second_picture(memory, 1025, record, 42, wiring, 0, picture, 9, &count, &told), 2);
     is("length", (long long)told, 1025);
 }
 
@@ -2197,7 +2525,7 @@ static void many_programs(void)
 {
     enum { PROGRAMS = 300, EVENTS = 400 };
     uint8_t script[EVENTS];
-    uint8_t memory_then[1024], record_then[37];
+    uint8_t memory_then[1024], record_then[43];
     unsigned differ = 0, not_lendable = 0, wrong_count = 0, wrong_reason = 0;
 
     from("01, a run is its events in order");
@@ -2212,7 +2540,7 @@ static void many_programs(void)
         for (int at = 0; at < EVENTS; at++) {
             unsigned kind = any(16);
 
-            script[at] = kind < 11 ? CYCLE : kind < 12 ? BASE_PULSE : kind < 13 ? WATCHDOG_PULSE
+            script[at] = kind < 9 ? CYCLE : kind < 11 ? SOUND_CLOCK : kind < 12 ? BASE_PULSE : kind < 13 ? WATCHDOG_PULSE
                          : any(60) ? (uint8_t)(0x10 + any(0x40)) : RESET_PIN;
         }
         for (unsigned address = 0x020; address < 0x170; address++)
@@ -2220,6 +2548,8 @@ static void many_programs(void)
         memory[0x000] = (uint8_t)any(16);
         memory[0x002] = (uint8_t)any(16);
         memory[0x003] = (uint8_t)any(16);
+        for (unsigned address = 0x371; address <= 0x377; address++)
+            memory[address] = (uint8_t)any(16);
         set_two(R_PC, any(4096));
         record[R_T0_COUNTER] = 250;
         set_two(R_WATCHDOG, 1 + any(40));
@@ -2240,7 +2570,7 @@ static void many_programs(void)
                 break;
             }
         }
-        uint8_t memory_by_steps[1024], record_by_steps[37];
+        uint8_t memory_by_steps[1024], record_by_steps[43];
         memcpy(memory_by_steps, memory, sizeof memory);
         memcpy(record_by_steps, record, sizeof record);
         memcpy(memory, memory_then, sizeof memory);
@@ -2275,6 +2605,7 @@ int main(void)
     asleep();
     rom_read();
     edges();
+    sound();
     runs();
     memory_refusals();
     record_refusals();

@@ -11,8 +11,8 @@ use wire::record;
 
 const NOP: u16 = 0xFFFF;
 
-// Where each field of a record stands among its 37 bytes, in 01's order with each stack entry and each port's pins as one; then the end.
-const PLACES: [u8; 26] = [
+// Where each field of a record stands among its 43 bytes, in 01's order with each stack entry and each port's pins as one, then each channel's count and output; then the end.
+const PLACES: [u8; 30] = [
     0,
     2,
     3,
@@ -39,6 +39,10 @@ const PLACES: [u8; 26] = [
     34,
     35,
     37,
+    39,
+    40,
+    42,
+    43,
 ];
 
 pub struct Case {
@@ -172,7 +176,7 @@ fn changed(m: Machine, field: u32, value: u16) -> Machine {
 }
 
 fn put_field(bytes: &mut [u8], field: usize, value: u16) {
-    if 24 < field {
+    if 28 < field {
         return;
     }
     let at = (PLACES[field] % 64) as usize;

@@ -7,7 +7,7 @@ mod show;
 use desk::Case;
 use reader::Line;
 
-const ROOM_TEXT: usize = 0x20000;
+const ROOM_TEXT: usize = 0x40000;
 
 const ROOM_WORDS: usize = 4097;
 

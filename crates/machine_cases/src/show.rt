@@ -46,6 +46,7 @@ pub fn left(events: usize, m: Machine, memory: &[u8]) {
     stack(&bytes);
     timers(&bytes);
     pins(&bytes);
+    tones(&bytes);
     cells(memory);
 }
 
@@ -97,6 +98,15 @@ fn pins(bytes: &[u8]) {
     text(b" pending");
     single(bytes, 34);
     pair(bytes, 35);
+}
+
+// Count and output of each tone channel.
+fn tones(bytes: &[u8]) {
+    text(b" tones");
+    pair(bytes, 37);
+    single(bytes, 39);
+    pair(bytes, 40);
+    single(bytes, 42);
 }
 
 // A field of two bytes: four hexadecimal digits.
