@@ -14,16 +14,39 @@ enum {
     PICTURES = 40000, OFTEN = 10, SELDOM = 100, LONGEST = 10000000, TIMED_AT_LEAST = 1000000
 };
 
-static void fresh(struct machine *machine)
+static struct machine awake(void)
 {
+    struct machine machine;
     uint64_t value;
 
-    if (galhoveia_fresh(machine->memory, sizeof machine->memory, machine->record, sizeof machine->record, 0, &value)) {
+    if (galhoveia_fresh(machine.memory, sizeof machine.memory, machine.record, sizeof machine.record, 0, &value)) {
         printf("no fresh machine\n");
         exit(EXIT_FAILURE);
     }
-    machine->memory[0x010] = 5; /* the pointer at data cell $025 */
-    machine->memory[0x011] = 2;
+    machine.memory[0x010] = 5; /* the pointer at data cell $025 */
+    machine.memory[0x011] = 2;
+    return machine;
+}
+
+static struct machine asleep(void)
+{
+    struct machine machine = awake();
+
+    machine.record[GALHOVEIA_RECORD_MODE] = GALHOVEIA_HALT;
+    return machine;
+}
+
+/* Both channels on, with the two tones of the data sheet's example 4. */
+static struct machine sounding(void)
+{
+    struct machine machine = awake();
+
+    machine.memory[0x371] = 0x3;
+    machine.memory[0x372] = 0x2 | 8;
+    machine.memory[0x375] = 0xF;
+    machine.memory[0x376] = 0x4;
+    machine.memory[0x377] = 3;
+    return machine;
 }
 
 /* ---- The table ---- */
@@ -39,7 +62,7 @@ static void heading(void)
 static void line(const char *what, const double best[SIDES_MOST])
 {
     printf("%-42s %14.0f %14.0f %8.2f", what, 1 / best[GALHOVEIA], 1 / best[SECOND], best[SECOND] / best[GALHOVEIA]);
-    if (sides > BEFORE)
+    if (best[BEFORE] != 0)
         printf(" %14.0f %10.2f", 1 / best[BEFORE], best[BEFORE] / best[GALHOVEIA]);
     printf("\n");
     fflush(stdout);
@@ -60,21 +83,31 @@ static void same(const char *what, const void *left, const void *right, size_t l
     }
 }
 
-static void measure_run(const char *what, struct load load, uint8_t mode)
+/* The sides that know a record as long as this. */
+static int sides_with(size_t length)
+{
+    return sides > BEFORE && record_bytes(&side[BEFORE]) < length ? BEFORE : sides;
+}
+
+static void measure_run_on(int taking_part, const char *what, struct load load, struct machine start)
 {
     double best[SIDES_MOST] = {0};
 
     for (int turn = 0; turn < TURNS; turn++) {
         struct machine end[SIDES_MOST];
 
-        for (int at = 0; at < sides; at++) {
-            fresh(&end[at]);
-            end[at].record[GALHOVEIA_RECORD_MODE] = mode;
+        for (int at = 0; at < taking_part; at++) {
+            end[at] = start;
             least(&best[at], time_runs(&side[at], load, RUN_EVENTS, 1, &end[at]));
             same(what, &end[GALHOVEIA], &end[at], sizeof end[at]);
         }
     }
     line(what, best);
+}
+
+static void measure_run(const char *what, struct load load, struct machine start)
+{
+    measure_run_on(sides, what, load, start);
 }
 
 static void measure_steps(const char *what, struct load load)
@@ -85,7 +118,7 @@ static void measure_steps(const char *what, struct load load)
         struct machine end[SIDES_MOST];
 
         for (int at = 0; at < sides; at++) {
-            fresh(&end[at]);
+            end[at] = awake();
             least(&best[at], time_steps(&side[at], load, STEPS, &end[at]));
             same(what, &end[GALHOVEIA], &end[at], sizeof end[at]);
         }
@@ -113,9 +146,8 @@ static void measure_levels(const char *what)
     static const uint8_t body[GALHOVEIA_LEVEL_BYTES] = {0x00, 0x20, 0x00, 0x21, 2};
     double best[SIDES_MOST] = {0};
     struct shown shown[SIDES_MOST] = {0};
-    struct machine machine;
+    struct machine machine = awake();
 
-    fresh(&machine);
     machine.memory[0x020] = 4;
     machine.memory[0x021] = 7;
     for (int turn = 0; turn < TURNS; turn++)
@@ -131,9 +163,8 @@ static void measure_pictures(const char *what)
     uint8_t wiring[GALHOVEIA_ELEMENT_BYTES * GALHOVEIA_ELEMENTS_MOST];
     double best[SIDES_MOST] = {0};
     struct shown shown[SIDES_MOST] = {0};
-    struct machine machine;
+    struct machine machine = awake();
 
-    fresh(&machine);
     machine.memory[0x007] = 4; /* the display is on */
     full_panel(machine.memory, wiring);
     for (int turn = 0; turn < TURNS; turn++)
@@ -149,9 +180,8 @@ static void measure_pictures(const char *what)
 static double time_length(struct load load, size_t length)
 {
     size_t times = length < TIMED_AT_LEAST ? TIMED_AT_LEAST / length : 1;
-    struct machine machine;
+    struct machine machine = awake();
 
-    fresh(&machine);
     return time_runs(&side[GALHOVEIA], load, length, times, &machine);
 }
 
@@ -174,7 +204,8 @@ int main(void)
 {
     static uint8_t nops[GALHOVEIA_PROGRAM_BYTES], mixture[GALHOVEIA_PROGRAM_BYTES], calls[GALHOVEIA_PROGRAM_BYTES],
         example[GALHOVEIA_PROGRAM_BYTES], general[GALHOVEIA_PROGRAM_BYTES], writers[GALHOVEIA_PROGRAM_BYTES];
-    static uint8_t cycles[LONGEST], mixture_pins[RUN_EVENTS], calls_pins[RUN_EVENTS], example_keys[RUN_EVENTS];
+    static uint8_t cycles[LONGEST], mixture_pins[RUN_EVENTS], calls_pins[RUN_EVENTS], example_keys[RUN_EVENTS],
+        sound[RUN_EVENTS];
 
     example_dispatcher(example, example_keys, RUN_EVENTS);
     only_nops(nops);
@@ -183,17 +214,20 @@ int main(void)
     some_pins(mixture_pins, RUN_EVENTS, OFTEN);
     calls_and_registers(calls);
     some_pins(calls_pins, RUN_EVENTS, SELDOM);
+    cycles_and_sound(sound, RUN_EVENTS);
     general_words(general);
     only_writers(writers, 0x020);
 
     heading();
-    measure_run("run: NOPs, events", (struct load){nops, cycles}, GALHOVEIA_RUNNING);
-    measure_run("run: mixed program, events", (struct load){mixture, cycles}, GALHOVEIA_RUNNING);
-    measure_run("run: mixed, a tenth pin events, events", (struct load){mixture, mixture_pins}, GALHOVEIA_RUNNING);
-    measure_run("run: calls and registers, events", (struct load){calls, calls_pins}, GALHOVEIA_RUNNING);
-    measure_run("run: the example dispatcher, events", (struct load){example, example_keys}, GALHOVEIA_RUNNING);
-    measure_run("run: asleep in HALT, events", (struct load){mixture, cycles}, GALHOVEIA_HALT);
-    measure_run("run: general events, events", (struct load){general, cycles}, GALHOVEIA_RUNNING);
+    measure_run("run: NOPs, events", (struct load){nops, cycles}, awake());
+    measure_run("run: mixed program, events", (struct load){mixture, cycles}, awake());
+    measure_run("run: mixed, a tenth pin events, events", (struct load){mixture, mixture_pins}, awake());
+    measure_run_on(sides_with(GALHOVEIA_RECORD_BYTES), "run: mixed, 4 sound clocks a cycle, events",
+                   (struct load){mixture, sound}, sounding());
+    measure_run("run: calls and registers, events", (struct load){calls, calls_pins}, awake());
+    measure_run("run: the example dispatcher, events", (struct load){example, example_keys}, awake());
+    measure_run("run: asleep in HALT, events", (struct load){mixture, cycles}, asleep());
+    measure_run("run: general events, events", (struct load){general, cycles}, awake());
     measure_steps("step: mixed program, steps", (struct load){mixture, cycles});
     measure_lists("list: mixed program, lists", mixture, LISTED_CELLS);
     measure_lists("list: every word names the cell, lists", writers, 1);

@@ -26,11 +26,15 @@ static void read_example_script(uint8_t *script, size_t events)
 {
     struct bytes text = read_file(example_script, EXAMPLE_FILE_MOST);
     struct bytes once = script_from_text(example_script, (const char *)text.at);
+    size_t silent = 0;
 
-    if (once.length == 0)
+    for (size_t at = 0; at < once.length; at++)
+        if (once.at[at] != GALHOVEIA_EVENT_SOUND)
+            once.at[silent++] = once.at[at];
+    if (silent == 0)
         fail("%s has no events", example_script);
     for (size_t at = 0; at < events; at++)
-        script[at] = once.at[at % once.length];
+        script[at] = once.at[at % silent];
     free(once.at);
     free(text.at);
 }

@@ -219,6 +219,15 @@ void only_cycles(uint8_t *script, size_t events)
     memset(script, GALHOVEIA_EVENT_CYCLE, events);
 }
 
+void cycles_and_sound(uint8_t *script, size_t events)
+{
+    enum { CLOCKS_TO_A_CYCLE = 4 };
+
+    memset(script, GALHOVEIA_EVENT_SOUND, events);
+    for (size_t at = 0; at < events; at += 1 + CLOCKS_TO_A_CYCLE)
+        script[at] = GALHOVEIA_EVENT_CYCLE;
+}
+
 void some_pins(uint8_t *script, size_t events, size_t every)
 {
     only_cycles(script, events);

@@ -14,14 +14,17 @@ void calls_and_registers(uint8_t *program);
 
 void only_cycles(uint8_t *script, size_t events);
 
+/* A cycle and four sound clocks in turn, as one oscillator gives them. */
+void cycles_and_sound(uint8_t *script, size_t events);
+
 /* Cycles, and at every so many events one that gives a port new pins. */
 void some_pins(uint8_t *script, size_t events, size_t every);
 
 /* A wiring of GALHOVEIA_ELEMENTS_MOST elements, and something in the display cells of a memory. */
 void full_panel(uint8_t *memory, uint8_t *wiring);
 
-/* The program of the example's book, and its script again and again. A file that cannot be read is told, and ends the
-   bench. */
+/* The program of the example's book, and its script again and again, without its sound clocks, which an earlier library
+   may not know. A file that cannot be read is told, and ends the bench. */
 void example_dispatcher(uint8_t *program, uint8_t *script, size_t events);
 
 #endif

@@ -8,6 +8,7 @@
 enum { GALHOVEIA, SECOND, BEFORE, SIDES_MOST };
 
 struct side {
+    uint32_t (*fresh)(uint8_t *, size_t, uint8_t *, size_t, uint32_t, uint64_t *);
     uint32_t (*run)(const uint8_t *, size_t, uint8_t *, size_t, uint8_t *, size_t, const uint8_t *, size_t, uint32_t,
                     uint32_t *, uint64_t *, uint64_t *);
     uint32_t (*step)(const uint8_t *, size_t, uint8_t *, size_t, uint8_t *, size_t, uint8_t, uint64_t *);
@@ -19,5 +20,8 @@ struct side {
 
 extern const struct side side[SIDES_MOST];
 extern const int sides; /* BEFORE is among them, or not */
+
+/* How much of a record the side works on: an earlier galhoveia may know the first fields only. */
+size_t record_bytes(const struct side *asked);
 
 #endif

@@ -25,13 +25,14 @@ static void must(int done, const char *what)
 
 double time_runs(const struct side *side, struct load load, size_t length, size_t times, struct machine *machine)
 {
+    size_t record = record_bytes(side);
     uint32_t reason;
     uint64_t events, value;
     double start = now();
 
     for (size_t at = 0; at < times; at++)
         must(side->run(load.program, GALHOVEIA_PROGRAM_BYTES, machine->memory, sizeof machine->memory, machine->record,
-                       sizeof machine->record, load.script, length, GALHOVEIA_NO_STOP, &reason, &events, &value) == 0
+                       record, load.script, length, GALHOVEIA_NO_STOP, &reason, &events, &value) == 0
                  && events == length,
              "a run");
     return (now() - start) / (double)(length * times);
@@ -39,12 +40,13 @@ double time_runs(const struct side *side, struct load load, size_t length, size_
 
 double time_steps(const struct side *side, struct load load, size_t times, struct machine *machine)
 {
+    size_t record = record_bytes(side);
     uint64_t value;
     double start = now();
 
     for (size_t at = 0; at < times; at++)
         must(side->step(load.program, GALHOVEIA_PROGRAM_BYTES, machine->memory, sizeof machine->memory, machine->record,
-                        sizeof machine->record, load.script[at], &value) == 0,
+                        record, load.script[at], &value) == 0,
              "a step");
     return (now() - start) / (double)times;
 }
@@ -80,11 +82,12 @@ double time_levels(const struct side *side, const struct machine *machine, const
 double time_pictures(const struct side *side, const struct machine *machine, const uint8_t *wiring, size_t times,
                      struct shown *shown)
 {
+    size_t record = record_bytes(side);
     uint64_t count, value;
     double start = now();
 
     for (size_t at = 0; at < times; at++)
-        must(side->picture(machine->memory, sizeof machine->memory, machine->record, sizeof machine->record, wiring,
+        must(side->picture(machine->memory, sizeof machine->memory, machine->record, record, wiring,
                            GALHOVEIA_ELEMENT_BYTES * GALHOVEIA_ELEMENTS_MOST, shown->picture, sizeof shown->picture,
                            &count, &value)
                      == 0

@@ -50,8 +50,8 @@ static bool is_listed(unsigned cell, unsigned address)
 enum seen { EVENTS, NOT_EXECUTING, NO_CYCLES, CHANGES, DATA, DISPLAY, SCAN, THROUGH_POINTER, SEEN };
 
 static const char *const seen_name[SEEN] = {
-    "events by single steps", "  cycles asleep or interrupted", "  pins, pulses and resets", "changes of cells",
-    "  data", "  display", "  scan", "  through $00F"};
+    "events by single steps", "  cycles asleep or interrupted", "  pins, pulses, sound clocks, resets",
+    "changes of cells", "  data", "  display", "  scan", "  through $00F"};
 
 static uint64_t seen[SEEN];
 static uint64_t changed_by_code[CODES]; /* by bits 15-11 of the word */
@@ -138,10 +138,11 @@ static void read_program(const char *path)
     memcpy(program, book + at, sizeof program);
 }
 
-/* Calls keyed at random on the panel of dispatcher.asm, most of them served before the next, with resets between. */
+/* Calls keyed at random on the panel of dispatcher.asm, with resets between. Half of them are served and chimed before
+   the next, the others find the program still at the chime. */
 static void the_dispatcher(const char *book)
 {
-    enum { CALLS_MADE = 200, SERVED = 90, RESET_ONE_IN = 10 };
+    enum { CALLS_MADE = 100, SERVED = 90, CHIMED = 3500, RESET_ONE_IN = 10 };
     uint64_t value;
     uint32_t answer = galhoveia_fresh(machine.memory, MEMORY_BYTES, machine.record, RECORD_BYTES, 1, &value);
 
@@ -154,6 +155,8 @@ static void the_dispatcher(const char *book)
         (void)step((uint8_t)(0x30 + any(16)));
         (void)step(PINS_A + 1);
         cycles(SERVED);
+        (void)step(SOUND_CLOCK);
+        cycles(CHIMED * any(2));
         (void)step(PINS_A);
         (void)step(any(2) ? BASE_PULSE : WATCHDOG_PULSE);
         if (any(RESET_ONE_IN) == 0)
@@ -182,16 +185,19 @@ static void one_machine(enum mix mix)
 
 void compare_changes(const struct plan *plan)
 {
+    uint64_t wanted;
+
     cell_stride = plan->cell_stride;
     the_dispatcher(plan->book);
-    for (unsigned number = 0; seen[EVENTS] < plan->events / OF_ALL_EVENTS; number++) {
+    wanted = seen[EVENTS] + plan->events / OF_ALL_EVENTS;
+    for (unsigned number = 0; seen[EVENTS] < wanted; number++) {
         random_program(program, (enum mix)(number % MIXES));
         forget_lists();
         for (int times = 0; times < MACHINES_ON_ONE_PROGRAM; times++)
             one_machine((enum mix)(number % MIXES));
     }
     for (int what = 0; what < SEEN; what++) {
-        printf("  %-34s %12" PRIu64 "\n", seen_name[what], seen[what]);
+        printf("  %-36s %12" PRIu64 "\n", seen_name[what], seen[what]);
         check(seen[what] > 0, "no %s", seen_name[what]);
     }
     for (unsigned code = 0; code < CODES; code++)

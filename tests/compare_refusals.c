@@ -26,8 +26,8 @@ static uint8_t unknown_event(void)
     uint8_t event;
 
     do
-        event = (uint8_t)any(256);
-    while (event <= RESET_PIN || (event >= PINS_A && event <= PINS_D + 15));
+        event = (uint8_t)any(any(4) ? 256 : PINS_A);
+    while (is_known(event));
     return event;
 }
 
@@ -37,7 +37,7 @@ static void orders(void)
     enum { PROGRAM_LEN = 1, MEMORY_LEN = 2, CELL = 4, RECORD_LEN = 8, FIELD = 16, EVENT = 32, UNLISTED = 64, SETS = 128 };
     static const uint16_t program_lengths[] = {0, 1, 2, 4096, 8190, 8191, 8193, 8194, 16384};
     static const uint16_t memory_lengths[] = {0, 1, 512, 1023, 1025, 2048};
-    static const uint16_t record_lengths[] = {0, 1, 36, 38, 74};
+    static const uint16_t record_lengths[] = {0, 1, 36, 37, 38, 42, 44, 86};
     enum { REPEATS = 12, LENGTH = 9 };
 
     for (unsigned set = 0; set < SETS; set++)
@@ -230,13 +230,41 @@ static void record_rules(void)
         }
 }
 
+/* Counts and outputs of the sound channels, whatever the registers hold (02, P1). */
+static void sound_rules(void)
+{
+    struct machine machine;
+
+    for (int channel = 0; channel < CHANNELS; channel++) {
+        uint8_t *fields = machine.record + R_SOUND_BYTES * channel;
+
+        for (unsigned count = 0; count < 0x10000; count += count < 1010 || count > 1030 ? 1 + any(60) : 1) {
+            plain_machine(&machine);
+            set_two(fields + R_SOUND_COUNT, count);
+            judge("count of a sound channel", &machine, count < SOUND_COUNTS);
+        }
+        for (unsigned output = 0; output < 256; output++) {
+            plain_machine(&machine);
+            fields[R_SOUND_OUTPUT] = (uint8_t)output;
+            judge("output of a sound channel", &machine, output < 2);
+        }
+        for (unsigned enabled = 0; enabled < 4; enabled++)
+            for (int off = -1; off <= 1; off++) {
+                plain_machine(&machine);
+                machine.memory[0x377] = (uint8_t)enabled;
+                set_two(fields + R_SOUND_COUNT, SOUND_COUNTS - 1 + (unsigned)off);
+                judge("count of a sound channel at its bound", &machine, off <= 0);
+            }
+    }
+}
+
 /* Every event byte, alone and at every place of a script. */
 static void event_bytes(void)
 {
     struct machine machine;
 
     for (unsigned event = 0; event < 256; event++) {
-        bool known = event <= RESET_PIN || (event >= PINS_A && event <= PINS_D + 15);
+        bool known = is_known(event);
 
         plain_machine(&machine);
         expect("an event byte", pair_step(LENT(program), LENT(machine.memory), LENT(machine.record), (uint8_t)event),
@@ -287,7 +315,7 @@ static void spoiled_machines(void)
 static void fresh_machines(void)
 {
     static const uint16_t memory_lengths[] = {0, 1, 1023, 1025, 8192};
-    static const uint16_t record_lengths[] = {0, 1, 36, 38, 1024};
+    static const uint16_t record_lengths[] = {0, 1, 36, 37, 38, 42, 44, 1024};
     struct machine machine;
 
     for (unsigned set = 0; set < 8; set++)
@@ -341,6 +369,7 @@ void compare_refusals(void)
     progress("refusals: all orders of 1 to 6 in step and run, every event byte; failed so far %lu", failed);
     every_byte();
     record_rules();
+    sound_rules();
     progress("refusals: the record's rules at their bounds; failed so far %lu", failed);
     fresh_machines();
     spoiled_machines();

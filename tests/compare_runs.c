@@ -23,7 +23,12 @@ enum happening {
     DONE_EVENTS, CYCLES, AWAKE, ASLEEP_HALT, ASLEEP_STOP, WOKEN_HALT, WOKEN_STOP, INTERRUPT_EXTERNAL, INTERRUPT_TIMER0,
     INTERRUPT_BASE, INTERRUPT_PORT, REQUEST_EXTERNAL, REQUEST_TIMER0, REQUEST_BASE, REQUEST_PORT, PIN_COUNTED,
     RELOADED, READ_ASKED, READ_LANDED, READ_ASKED_WHILE_LANDING, WATCHDOG_RESET, PIN_RESET, WATCHDOG_RESTARTED,
-    ENTRY_DROPPED, THROUGH_POINTER, POINTER_AT_REGISTER, STOPPED_AT_ADDRESS, BEFORE_UNLISTED, AT_SCRIPT_END, HAPPENINGS
+    ENTRY_DROPPED, THROUGH_POINTER, POINTER_AT_REGISTER, SOUND_CLOCKS, SOUND_IN_HALT, SOUND_IN_STOP,
+    RAN, /* what follows is of channel 1, then of channel 2 */
+    TURNED = RAN + CHANNELS, SET = TURNED + CHANNELS, SET_BY_OCTAVE = SET + CHANNELS,
+    HELD_OFF = SET_BY_OCTAVE + CHANNELS, HELD_SILENT = HELD_OFF + CHANNELS,
+    HELD_BY_MODE = HELD_SILENT + CHANNELS, RAN_IN_C1M,
+    STOPPED_AT_ADDRESS, BEFORE_UNLISTED, AT_SCRIPT_END, HAPPENINGS
 };
 
 static const char *const happening_name[HAPPENINGS] = {
@@ -32,7 +37,12 @@ static const char *const happening_name[HAPPENINGS] = {
     "new requests: external", "new requests: Timer0 (overflow)", "new requests: base (overflow)",
     "new requests: port", "edges counted by Timer0", "Timer0 overflows with load", "reads asked for", "reads landed",
     "reads asked for while one lands", "watchdog resets", "pin resets", "watchdog restarted by $01E",
-    "stack entries dropped", "instructions through $00F", "  of these at a register", "runs stopped at an address",
+    "stack entries dropped", "instructions through $00F", "  of these at a register", "sound clocks",
+    "sound clocks in HALT", "sound clocks in STOP", "sound clocks of channel 1 that runs",
+    "sound clocks of channel 2 that runs", "turns of channel 1", "turns of channel 2", "counts of channel 1 set anew",
+    "counts of channel 2 set anew", "  of channel 1 by the octave bit", "  of channel 2 by the octave bit",
+    "channel 1 held: disabled", "channel 2 held: disabled", "channel 1 held: value 0", "channel 2 held: value 0",
+    "channel 2 held: C1M or C2M", "channel 1 runs with C1M", "runs stopped at an address",
     "runs stopped by an unlisted word", "runs ended by the script"};
 
 static uint64_t happened[HAPPENINGS];
@@ -51,13 +61,15 @@ struct glimpse {
     uint8_t mode, pending, timer0_counter, options;
     uint8_t enabled, requested;
     uint16_t pointer;
+    struct second_tone tone[CHANNELS];
 };
 
 static struct glimpse glimpse_of(const struct second_machine *m)
 {
     return (struct glimpse){m->pc, m->watchdog, m->stack[7], m->mode, m->pending, m->timer0_counter, m->options,
                             m->cell[0], m->cell[1],
-                            (uint16_t)(128u * m->cell[0x12] + 16u * m->cell[0x11] + m->cell[0x10])};
+                            (uint16_t)(128u * m->cell[0x12] + 16u * m->cell[0x11] + m->cell[0x10]),
+                            {m->tone[0], m->tone[1]}};
 }
 
 static void count_cycle(const struct glimpse *before, const struct second_machine *now)
@@ -94,6 +106,40 @@ static void count_cycle(const struct glimpse *before, const struct second_machin
     }
 }
 
+/* Whether a channel ran is told by what moved, why it did not by the registers, which a sound clock leaves. */
+static void count_channel(const struct glimpse *before, const struct second_machine *now, int channel)
+{
+    const struct second_tone *was = &before->tone[channel], *is = &now->tone[channel];
+    const uint8_t *tone = now->cell + (channel == 0 ? 0x371 : 0x375);
+    bool turned = is->output != was->output, ran = turned || is->count != was->count;
+
+    happened[RAN + channel] += ran;
+    happened[TURNED + channel] += turned;
+    happened[SET + channel] += ran && was->count == 0;
+    happened[SET_BY_OCTAVE + channel] += ran && was->count == 0 && (tone[1] & 8);
+    happened[RAN_IN_C1M] += ran && channel == 0 && (now->cell[0x370] & 1);
+    if (ran)
+        return;
+    if (!(now->cell[0x377] >> channel & 1))
+        happened[HELD_OFF + channel]++;
+    else if (tone[0] == 0 && (tone[1] & 7) == 0)
+        happened[HELD_SILENT + channel]++;
+    else
+        happened[HELD_BY_MODE] += channel == 1 && (now->cell[0x370] & 3);
+}
+
+static void count_sound(const struct glimpse *before, const struct second_machine *now)
+{
+    happened[SOUND_CLOCKS]++;
+    happened[SOUND_IN_HALT] += before->mode == SECOND_HALT;
+    if (before->mode == SECOND_STOP) {
+        happened[SOUND_IN_STOP]++;
+        return;
+    }
+    for (int channel = 0; channel < CHANNELS; channel++)
+        count_channel(before, now, channel);
+}
+
 static void count_event(const struct glimpse *before, const struct second_machine *now, uint8_t event)
 {
     unsigned fresh_requests = now->cell[1] & ~before->requested;
@@ -101,6 +147,8 @@ static void count_event(const struct glimpse *before, const struct second_machin
     happened[DONE_EVENTS]++;
     if (event == CYCLE)
         count_cycle(before, now);
+    else if (event == SOUND_CLOCK)
+        count_sound(before, now);
     happened[WATCHDOG_RESET] += event == WATCHDOG_PULSE && (before->options & 1) && before->watchdog == 1;
     happened[PIN_RESET] += event == RESET_PIN;
     happened[REQUEST_EXTERNAL] += event >= PINS_A && (fresh_requests & EXTERNAL);
@@ -246,7 +294,7 @@ void compare_runs(const struct plan *plan)
         }
     }
     for (int what = 0; what < HAPPENINGS; what++) {
-        printf("  %-34s %12" PRIu64 "\n", happening_name[what], happened[what]);
+        printf("  %-36s %12" PRIu64 "\n", happening_name[what], happened[what]);
         check(happened[what] > 0, "no %s in all these runs", happening_name[what]);
     }
     for (unsigned code = 0; code < 32; code++)

@@ -1,6 +1,7 @@
-/* Stretches of quiet cycles, drawn so that they end in each way in which one can end. Each goes through galhoveia's
-   run, the second emulator's run, galhoveia's run in two parts, and the second emulator's machine event by event, which
-   tells how it ended. All must come to the same answers and the same bytes. */
+/* Stretches of quiet cycles, without sound clocks between them and with, drawn so that they end in each way in which
+   one can end. Each goes through galhoveia's run, the second emulator's run, galhoveia's run in two parts, and the
+   second emulator's machine event by event, which tells how it ended. All must come to the same answers and the same
+   bytes. */
 #include "compare.h"
 #include "compare_stretches.h"
 #include "result.h"
@@ -9,7 +10,7 @@
 
 #include <inttypes.h>
 
-enum { OF_ALL_EVENTS = 5 };
+enum { OF_ALL_EVENTS = 5, ROUNDS_LEAST = 4 };
 
 static struct result whole(runs *run)
 {
@@ -54,12 +55,12 @@ static struct result by_watching(void)
     return result;
 }
 
-static uint64_t one_stretch(enum way way, bool asleep, bool beside)
+static uint64_t one_stretch(enum way way, bool asleep, bool beside, bool sounding)
 {
     struct result ours, second, parts, watched;
     size_t cut;
 
-    draw_stretch(way, asleep, beside);
+    draw_stretch(way, asleep, beside, sounding);
     cut = any((uint32_t)drawn.length + 1);
     ours = whole(galhoveia_run);
     second = whole(second_run);
@@ -78,14 +79,13 @@ void compare_stretches(const struct plan *plan)
 {
     uint64_t events = 0, stretches = 0;
 
-    do {
+    for (int round = 0; round < ROUNDS_LEAST || events < plan->events / OF_ALL_EVENTS; round++)
         for (enum way way = 0; way < WAYS; way++)
-            for (int variant = 0; variant < 4; variant++)
-                if (is_possible(way, variant & 1)) {
-                    events += one_stretch(way, variant & 1, variant & 2);
+            for (int variant = 0; variant < 8; variant++)
+                if (is_possible(way, variant & 1, variant & 4)) {
+                    events += one_stretch(way, variant & 1, variant & 2, variant & 4);
                     stretches++;
                 }
-    } while (events < plan->events / OF_ALL_EVENTS);
     tell_ways();
     progress("stretches: %" PRIu64 " events in %" PRIu64 " runs; failed so far %lu", events, stretches, failed);
 }

@@ -1,13 +1,14 @@
 /* Stretches of quiet cycles that end in each way on purpose: the ways, what is drawn, and how one was seen to end. A
    cycle is quiet where nothing but PC, AC, CY, the stack, Timer0's count and cells without effects of their own moves:
-   no read of program data is under way, no interrupt is due or becomes due, and Timer0 does not overflow. */
+   no read of program data is under way, no interrupt is due or becomes due, and Timer0 does not overflow. In a sounding
+   stretch sound clocks stand between the cycles, which they leave quiet. */
 #ifndef TESTS_COMPARE_STRETCHES_H
 #define TESTS_COMPARE_STRETCHES_H
 
 #include "../second/second.h"
 #include "support.h"
 
-enum { QUIET_LEAST = 100, SCRIPT_ROOM = 1 << 13, RATIOS = 7, PIN_SOURCE = 7 };
+enum { QUIET_LEAST = 100, SCRIPT_ROOM = 1 << 14, RATIOS = 7, PIN_SOURCE = 7 };
 enum { SOURCE_BITS = 7, RELOAD_BIT = 8 }; /* of $002 */
 enum { EXTERNAL = 8, TIMER0 = 4, BASE = 2, PORT = 1 };
 
@@ -17,6 +18,7 @@ enum way {
     DUE_BY_OVERFLOW, DUE_BY_PIN_OVERFLOW, DUE_BY_EXTERNAL, DUE_BY_PORT_B, DUE_BY_PORT_C, DUE_BY_BASE, DUE_BY_000,
     DUE_BY_001,
     BY_PINS_A, BY_PINS_B, BY_PINS_C, BY_PINS_D, BY_BASE_PULSE, BY_WATCHDOG_PULSE, BY_WATCHDOG_RESET, BY_PIN_RESET,
+    BY_SOUND_CLOCK,
     BY_UNLISTED,
     STOP_BY_GOING_ON, STOP_BY_BRANCH, STOP_BY_CALL, STOP_BY_RTNI, STOP_BY_RTNW, STOP_BY_TJMP, STOP_BY_INTERRUPT,
     STOP_AND_DUE, STOP_FROM_THE_START,
@@ -26,8 +28,8 @@ enum way {
     BY_END, END_BEFORE_OVERFLOW, END_AT_OVERFLOW, END_AFTER_OVERFLOW, SCRIPT_OF_NONE, SCRIPT_OF_ONE, SCRIPT_OF_TWO, WAYS
 };
 
-/* Whether a stretch can end so awake, or asleep in HALT. */
-bool is_possible(enum way way, bool asleep);
+/* Whether a stretch can end so awake, or asleep in HALT, without sound clocks, or sounding. */
+bool is_possible(enum way way, bool asleep, bool sounding);
 
 /* ---- What is drawn ---- */
 
@@ -42,7 +44,7 @@ extern struct stretch {
 } drawn;
 
 /* A stretch that is to end in this way, and some events after it; where beside, Timer0 overflows close to that end. */
-void draw_stretch(enum way way, bool asleep, bool beside);
+void draw_stretch(enum way way, bool asleep, bool beside, bool sounding);
 
 /* ---- What is quiet ---- */
 

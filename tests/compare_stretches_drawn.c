@@ -1,9 +1,11 @@
 /* Stretches of quiet cycles with an end put to them, and with Timer0 set so that it overflows where it is wanted. */
 #include "compare_stretches.h"
 
+#include <string.h>
+
 enum {
-    SHORT_MOST = 2, NUMBER_LEAST = QUIET_LEAST + 3, NUMBER_SPREAD = 160, SPREADS = 6, ROUTINE_MOST = 512,
-    AFTER_MOST = 400
+    SHORT_MOST = 2, NUMBER_LEAST = QUIET_LEAST + 3, NUMBER_SPREAD = 160, SPREADS = 6, SOUNDING_SPREADS = 3,
+    ROUTINE_MOST = 512, AFTER_MOST = 400, CLOCKS_TO_A_CYCLE = 4, CLOCKS_SPREAD = 20, APART_MOST = 30
 };
 
 struct stretch drawn;
@@ -127,9 +129,32 @@ static void falls_asleep(bool at_once)
         put(drawn.page | MAIN, HALT_WORD);
 }
 
-void draw_stretch(enum way way, bool asleep, bool beside)
+/* ---- Sound clocks ---- */
+
+/* Before the first event and after each: as an oscillator gives them, or some now and then. */
+static void put_sound_clocks(void)
 {
-    size_t number = NUMBER_LEAST + any(NUMBER_SPREAD << any(SPREADS));
+    static uint8_t without[SCRIPT_ROOM];
+    size_t events = drawn.length;
+    unsigned apart = any(2) ? 1 : 1 + any(APART_MOST);
+
+    memcpy(without, drawn.script, events);
+    drawn.length = 0;
+    happens(SOUND_CLOCK);
+    for (size_t at = 0; at < events; at++) {
+        unsigned clocks = apart == 1 ? CLOCKS_TO_A_CYCLE : any(apart) == 0 ? 1 + any(CLOCKS_SPREAD) : 0;
+
+        happens(without[at]);
+        while (clocks-- > 0)
+            happens(SOUND_CLOCK);
+    }
+}
+
+/* ---- All together ---- */
+
+void draw_stretch(enum way way, bool asleep, bool beside, bool sounding)
+{
+    size_t number = NUMBER_LEAST + any(NUMBER_SPREAD << any(sounding ? SOUNDING_SPREADS : SPREADS));
     bool is_short = way >= SCRIPT_OF_NONE;
 
     draw_quiet(any_enabled(way));
@@ -149,4 +174,6 @@ void draw_stretch(enum way way, bool asleep, bool beside)
         ends_otherwise(way, asleep, beside, number);
     if (!is_by_end(way))
         cycles(any(2) ? any(3) : any(AFTER_MOST));
+    if (sounding)
+        put_sound_clocks();
 }

@@ -336,6 +336,10 @@ void put_end(enum way way, bool asleep)
     case BY_PIN_RESET:
         happens(RESET_PIN);
         break;
+    case BY_SOUND_CLOCK:
+        for (unsigned clocks = any(2) ? 1 : 1 + any(40); clocks > 0; clocks--)
+            happens(SOUND_CLOCK);
+        break;
     default:
         put_stop_end(way, asleep);
         break;

@@ -31,6 +31,7 @@ static const struct {
     [BY_PINS_C] = {"pins of port C", BOTH}, [BY_PINS_D] = {"pins of port D", BOTH},
     [BY_BASE_PULSE] = {"base timer's pulse", BOTH}, [BY_WATCHDOG_PULSE] = {"watchdog's pulse", BOTH},
     [BY_WATCHDOG_RESET] = {"watchdog's reset", BOTH}, [BY_PIN_RESET] = {"reset pin", BOTH},
+    [BY_SOUND_CLOCK] = {"sound clock", BOTH},
     [BY_UNLISTED] = {"unlisted word", AWAKE_ONLY},
     [STOP_BY_GOING_ON] = {"stop address by going on", AWAKE_ONLY},
     [STOP_BY_BRANCH] = {"stop address by a branch", AWAKE_ONLY},
@@ -55,45 +56,60 @@ static const struct {
     [SCRIPT_OF_TWO] = {"script of two events", BOTH},
 };
 
-static uint64_t met[WAYS][2]; /* awake, asleep */
-static uint64_t longest;
+static uint64_t met[WAYS][2][2]; /* awake or asleep, without sound clocks or sounding */
+static uint64_t longest, sounded_most;
 
-bool is_possible(enum way way, bool asleep)
+/* A sound clock that ends a stretch is its first. */
+bool is_possible(enum way way, bool asleep, bool sounding)
 {
-    return ways[way].possible & (asleep ? ASLEEP_ONLY : AWAKE_ONLY);
+    return (ways[way].possible & (asleep ? ASLEEP_ONLY : AWAKE_ONLY)) && !(sounding && way == BY_SOUND_CLOCK);
+}
+
+static void tell_way(enum way way)
+{
+    printf("  %-44s", ways[way].name);
+    for (int kind = 0; kind < 4; kind++)
+        if (is_possible(way, kind & 1, kind & 2))
+            printf(" %9" PRIu64, met[way][kind & 1][kind >> 1]);
+        else
+            printf(" %9s", "-");
+    printf("\n");
+    for (int kind = 0; kind < 4; kind++)
+        if (is_possible(way, kind & 1, kind & 2))
+            check(met[way][kind & 1][kind >> 1] > 0, "no %sstretch %s ended by: %s", kind & 2 ? "sounding " : "",
+                  kind & 1 ? "in HALT" : "awake", ways[way].name);
 }
 
 void tell_ways(void)
 {
-    printf("  %-44s %9s %9s\n", "stretches of quiet cycles ended by", "awake", "in HALT");
-    for (enum way way = 0; way < WAYS; way++) {
-        printf("  %-44s", ways[way].name);
-        for (int asleep = 0; asleep < 2; asleep++)
-            if (is_possible(way, asleep))
-                printf(" %9" PRIu64, met[way][asleep]);
-            else
-                printf(" %9s", "-");
-        printf("\n");
-        for (int asleep = 0; asleep < 2; asleep++)
-            if (is_possible(way, asleep))
-                check(met[way][asleep] > 0, "no stretch %s ended by: %s", asleep ? "in HALT" : "awake", ways[way].name);
-    }
+    printf("  %-44s %9s %9s %9s %9s\n", "stretches of quiet cycles ended by", "awake", "in HALT", "sounding", "in HALT");
+    for (enum way way = 0; way < WAYS; way++)
+        tell_way(way);
     printf("  %-44s %9" PRIu64 "\n", "quiet cycles in the longest", longest);
+    printf("  %-44s %9" PRIu64 "\n", "sound clocks in the one with most", sounded_most);
+    check(sounded_most > QUIET_LEAST, "only %" PRIu64 " sound clocks in a stretch", sounded_most);
 }
 
 /* ---- One run ---- */
 
 #define NEVER (UINT64_MAX / 2)
 
+/* Sound clocks are not counted among the events. */
 static uint64_t at, quiet;                  /* this event, and the quiet cycles right before it */
 static uint64_t long_ended_at, overflow_at; /* the event behind the one that ended a long stretch, or behind its overflow */
+static uint64_t sounded;                    /* sound clocks so far */
 static bool ended, begun_asleep;
+
+static void meet(enum way way, bool asleep)
+{
+    met[way][asleep][sounded > 0]++;
+}
 
 static void mark(enum way way, bool asleep)
 {
     ended = true;
     if (quiet >= QUIET_LEAST)
-        met[way][asleep]++;
+        meet(way, asleep);
 }
 
 /* What comes right after the event that ended a stretch. */
@@ -101,7 +117,7 @@ static void mark_late(enum way way, bool asleep)
 {
     ended = true;
     if (long_ended_at == at)
-        met[way][asleep]++;
+        meet(way, asleep);
 }
 
 static unsigned due(const struct second_machine *m)
@@ -235,7 +251,8 @@ static void see_cycle(const struct second_machine *before, const struct second_m
         if (now->pc == drawn.stop)
             mark_late(STOP_BY_INTERRUPT, asleep);
     } else if (asleep) {
-        met[STOP_FROM_THE_START][1] += begun_asleep && now->pc == drawn.stop;
+        if (begun_asleep && now->pc == drawn.stop)
+            meet(STOP_FROM_THE_START, true);
     } else if (before->pending) {
         if (word == HALT_WORD)
             mark_late(BY_ROM_READ_AND_HALT, false);
@@ -255,13 +272,26 @@ static void see_cycle(const struct second_machine *before, const struct second_m
 
 void watch_begins(void)
 {
-    at = quiet = 0;
+    at = quiet = sounded = 0;
     long_ended_at = overflow_at = NEVER;
     begun_asleep = drawn.start.record[R_MODE] == IN_HALT;
 }
 
+static void see_sound_clock(const struct second_machine *now)
+{
+    if (sounded == 0 && quiet >= QUIET_LEAST)
+        meet(BY_SOUND_CLOCK, now->mode == SECOND_HALT);
+    sounded++;
+    if (quiet > 0 && sounded > sounded_most)
+        sounded_most = sounded;
+}
+
 void watch_event(const struct second_machine *before, const struct second_machine *now, uint8_t event)
 {
+    if (event == SOUND_CLOCK) {
+        see_sound_clock(now);
+        return;
+    }
     ended = false;
     if (event == CYCLE)
         see_cycle(before, now);
@@ -285,12 +315,12 @@ void watch_ends(const struct second_machine *now, enum second_reason reason)
         mark(BY_UNLISTED, false);
     if (reason != SECOND_AT_END || now->mode == SECOND_STOP)
         return;
-    if (drawn.length <= 2)
-        met[SCRIPT_OF_NONE + drawn.length][asleep]++;
+    if (at <= 2)
+        meet(SCRIPT_OF_NONE + (enum way)at, asleep);
     else
         mark(is_at_overflow(now) ? END_BEFORE_OVERFLOW : BY_END, asleep);
     if (overflow_at == at)
-        met[END_AT_OVERFLOW][asleep]++;
+        meet(END_AT_OVERFLOW, asleep);
     if (overflow_at + 1 == at)
-        met[END_AFTER_OVERFLOW][asleep]++;
+        meet(END_AFTER_OVERFLOW, asleep);
 }

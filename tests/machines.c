@@ -1,5 +1,5 @@
 /* Well-formed machines, programs and scripts made at random, drawn so that the rare things happen often: interrupts,
-   wakes, pending reads, overflows, watchdog resets, stores through the pointer at registers. */
+   wakes, pending reads, overflows, watchdog resets, tones that turn, stores through the pointer at registers. */
 #include "support.h"
 
 #include <string.h>
@@ -77,6 +77,11 @@ bool is_unlisted(uint16_t word)
     return word != 0xD400 && word != 0xD800 && word != 0xDC00 && word != 0xF000 && word != 0xF7FF && word != 0xFFFF;
 }
 
+bool is_known(unsigned event)
+{
+    return event <= RESET_PIN || event == SOUND_CLOCK || (event >= PINS_A && event <= PINS_D + 15);
+}
+
 /* ---- Machines ---- */
 
 /* Often close below the end, so that a count soon comes round. */
@@ -92,6 +97,39 @@ static const uint16_t pointed_at[] = {
     0x010, 0x011, 0x012, 0x013, 0x014, 0x015, 0x016, 0x017, 0x018, 0x019, 0x01A, 0x01B, 0x01C, 0x01D, 0x01E, 0x01F,
     0x01A, 0x01E, 0x005, 0x002, 0x003, 0x000, 0x001, 0x020, 0x16F, 0x170, 0x300, 0x348, 0x349, 0x358, 0x36D, 0x36E,
     0x370, 0x377, 0x378, 0x3FF};
+
+/* Often a tone with a short period, sometimes none at all. */
+static unsigned any_tone(void)
+{
+    static const uint8_t quick[] = {0x40, 0x60, 0x70, 0x78, 0x7C, 0x7E, 0x7F, 0x3F};
+
+    return any(2) ? quick[any(sizeof quick)] : any(8) ? any(128) : 0;
+}
+
+static void tune(uint8_t *memory, unsigned low, unsigned high)
+{
+    unsigned value = any_tone();
+
+    memory[low] = value & 15;
+    memory[high] = (uint8_t)((any(4) ? 0 : 8) | value >> 4);
+}
+
+/* Channels that mostly run, at any count, often a low one. */
+static void random_sound(struct machine *machine)
+{
+    tune(machine->memory, 0x371, 0x372);
+    tune(machine->memory, 0x375, 0x376);
+    if (any(4))
+        machine->memory[0x370] &= 12;
+    if (any(4))
+        machine->memory[0x377] |= 3;
+    for (int channel = 0; channel < CHANNELS; channel++) {
+        uint8_t *fields = machine->record + R_SOUND_BYTES * channel;
+
+        set_two(fields + R_SOUND_COUNT, any(2) ? any(4) : any(SOUND_COUNTS));
+        fields[R_SOUND_OUTPUT] = (uint8_t)any(2);
+    }
+}
 
 void random_machine(struct machine *machine)
 {
@@ -145,6 +183,7 @@ void random_machine(struct machine *machine)
         record[R_PENDING] = 1;
         set_two(record + R_PENDING_ADDRESS, any(4096));
     }
+    random_sound(machine);
 }
 
 void nudge(struct machine *machine)
@@ -162,6 +201,8 @@ void nudge(struct machine *machine)
     for (unsigned control = 0x016; control < 0x019; control++)
         if (any(4) == 0)
             memory[control] = 0;
+    if (any(4) == 0)
+        random_sound(machine);
 }
 
 /* ---- Programs ---- */
@@ -169,17 +210,17 @@ void nudge(struct machine *machine)
 /* What a word may be about, and how many of a hundred words each mix gives to it. */
 enum topic {
     BANKED, ON_REGISTERS, IMMEDIATE, POINTER_SET, POINTER_USE, BRANCH, CALLING, RETURNING, JUMPING, TABLE_JUMP, DECIMAL,
-    SLEEP_HALT, SLEEP_STOP, PLAIN, ENABLE, REQUEST, READ_ROM, TIMERS, WATCHDOG, WHATEVER, TOPICS
+    SLEEP_HALT, SLEEP_STOP, PLAIN, ENABLE, REQUEST, READ_ROM, TIMERS, WATCHDOG, ON_SOUND, WHATEVER, TOPICS
 };
 
 static const uint8_t weight[MIXES][TOPICS] = {
     /* the topics in their order */
-    [MIX_BUSY]   = {16, 10, 12, 6, 10, 8, 3, 3, 2, 1, 4, 1, 1, 5, 5, 5, 4, 3, 2, 0},
-    [MIX_TIMERS] = {8, 8, 8, 4, 6, 6, 2, 4, 2, 0, 2, 2, 0, 6, 10, 8, 2, 26, 4, 0},
-    [MIX_ASLEEP] = {8, 6, 8, 4, 4, 6, 2, 4, 2, 0, 2, 10, 10, 4, 18, 8, 2, 4, 2, 0},
-    [MIX_READS]  = {8, 8, 8, 8, 12, 4, 2, 2, 2, 0, 2, 1, 1, 4, 4, 3, 30, 2, 1, 0},
-    [MIX_NESTED] = {8, 6, 8, 4, 6, 8, 18, 16, 4, 3, 2, 1, 0, 4, 6, 5, 2, 2, 0, 0},
-    [MIX_ANY]    = {10, 5, 10, 5, 5, 5, 5, 5, 2, 1, 2, 1, 1, 3, 5, 3, 5, 3, 2, 20},
+    [MIX_BUSY]   = {16, 10, 12, 6, 10, 8, 3, 3, 2, 1, 4, 1, 1, 5, 5, 5, 4, 3, 2, 2, 0},
+    [MIX_TIMERS] = {8, 8, 8, 4, 6, 6, 2, 4, 2, 0, 2, 2, 0, 6, 10, 8, 2, 26, 4, 2, 0},
+    [MIX_ASLEEP] = {8, 6, 8, 4, 4, 6, 2, 4, 2, 0, 2, 10, 10, 4, 18, 8, 2, 4, 2, 2, 0},
+    [MIX_READS]  = {8, 8, 8, 8, 12, 4, 2, 2, 2, 0, 2, 1, 1, 4, 4, 3, 30, 2, 1, 2, 0},
+    [MIX_NESTED] = {8, 6, 8, 4, 6, 8, 18, 16, 4, 3, 2, 1, 0, 4, 6, 5, 2, 2, 0, 2, 0},
+    [MIX_ANY]    = {10, 5, 10, 5, 5, 5, 5, 5, 2, 1, 2, 1, 1, 3, 5, 3, 5, 3, 2, 2, 20},
 };
 
 static enum topic any_topic(enum mix mix)
@@ -269,6 +310,8 @@ static unsigned any_word(enum mix mix)
                       : banked(timer_registers[any(6)]);
     case WATCHDOG:
         return any(2) ? immediate(LDI_CODE, 4 + any(4), 0x1E) : banked(0x1E);
+    case ON_SOUND:
+        return banked(0x370 + any(8));
     default:
         return any(0x10000);
     }
@@ -294,15 +337,26 @@ void random_program(uint8_t program[PROGRAM_BYTES], enum mix mix)
 
 /* Of a thousand events; the rest are cycles. */
 static const struct {
-    uint16_t base, watchdog, reset, pins;
+    uint16_t base, watchdog, reset, pins, sound;
 } events_of[MIXES] = {
-    [MIX_BUSY]   = {20, 10, 1, 60},
-    [MIX_TIMERS] = {150, 20, 1, 100},
-    [MIX_ASLEEP] = {60, 10, 1, 150},
-    [MIX_READS]  = {10, 5, 1, 20},
-    [MIX_NESTED] = {20, 5, 1, 40},
-    [MIX_ANY]    = {250, 100, 20, 300},
+    [MIX_BUSY]   = {20, 10, 1, 60, 30},
+    [MIX_TIMERS] = {150, 20, 1, 100, 30},
+    [MIX_ASLEEP] = {60, 10, 1, 150, 60},
+    [MIX_READS]  = {10, 5, 1, 20, 20},
+    [MIX_NESTED] = {20, 5, 1, 40, 20},
+    [MIX_ANY]    = {250, 100, 20, 300, 60},
 };
+
+enum { SOUND_ROW = 16 };
+
+/* One sound clock, or a row of them; answers the place of the last. */
+static size_t sound_clocks(uint8_t *script, size_t place, size_t length)
+{
+    for (unsigned row = any(2) ? 1 : 1 + any(SOUND_ROW); row > 1 && place + 1 < length; row--)
+        script[place++] = SOUND_CLOCK;
+    script[place] = SOUND_CLOCK;
+    return place;
+}
 
 void random_script(uint8_t *script, size_t length, enum mix mix)
 {
@@ -315,8 +369,10 @@ void random_script(uint8_t *script, size_t length, enum mix mix)
             script[place] = BASE_PULSE;
         else if ((drawn -= events_of[mix].base) < events_of[mix].watchdog)
             script[place] = WATCHDOG_PULSE;
-        else if (drawn - events_of[mix].watchdog < events_of[mix].reset)
+        else if ((drawn -= events_of[mix].watchdog) < events_of[mix].reset)
             script[place] = RESET_PIN;
+        else if (drawn - events_of[mix].reset < events_of[mix].sound)
+            place = sound_clocks(script, place, length);
         else
             script[place] = CYCLE;
     }

@@ -7,16 +7,18 @@
 #include <stddef.h>
 #include <stdint.h>
 
-enum { PROGRAM_BYTES = 8192, MEMORY_BYTES = 1024, RECORD_BYTES = 37, WORDS = 4096, NO_STOP = 4096 };
+enum { PROGRAM_BYTES = 8192, MEMORY_BYTES = 1024, RECORD_BYTES = 43, WORDS = 4096, NO_STOP = 4096 };
 
-/* Where each field of the record begins (01, What is lent). */
+/* Where each field of the record begins (01, What is lent; 02, P1); channel 2 stands behind channel 1. */
 enum {
     R_PC = 0, R_AC = 2, R_CY = 3, R_MODE = 4, R_STACK = 5, R_T0_PRESCALER = 21, R_T0_COUNTER = 23, R_T0_LOAD = 24,
     R_BASE_PRESCALER = 25, R_BASE_COUNTER = 26, R_WATCHDOG = 27, R_PINS = 29, R_OPTIONS = 33, R_PENDING = 34,
-    R_PENDING_ADDRESS = 35
+    R_PENDING_ADDRESS = 35, R_SOUND_COUNT = 37, R_SOUND_OUTPUT = 39, R_SOUND_BYTES = 3
 };
+enum { CHANNELS = 2, SOUND_COUNTS = 1016 };
 enum { RUNNING = 0, IN_HALT = 1, IN_STOP = 2 };
-enum { CYCLE = 0x00, BASE_PULSE = 0x01, WATCHDOG_PULSE = 0x02, RESET_PIN = 0x03, PINS_A = 0x10, PINS_D = 0x40 };
+enum { CYCLE = 0x00, BASE_PULSE = 0x01, WATCHDOG_PULSE = 0x02, RESET_PIN = 0x03, SOUND_CLOCK = 0x05 };
+enum { PINS_A = 0x10, PINS_D = 0x40 };
 enum { AT_ADDRESS = 0, AT_UNLISTED = 1, AT_END = 2 };
 
 /* ---- Counting ---- */
@@ -46,6 +48,7 @@ unsigned two(const uint8_t *bytes);
 void set_two(uint8_t *bytes, unsigned number);
 
 bool is_unlisted(uint16_t word);
+bool is_known(unsigned event);
 bool is_askable(uint32_t cell); /* a data, display or scan cell */
 bool is_display(uint32_t cell);
 uint8_t bits_held(unsigned address);
