@@ -51,8 +51,8 @@ CRATES = crates.txt $(wildcard crates/*/src/*.rt)
 SECOND = second/second.c second/search.c second/instruction.c
 DESK = $(wildcard desk/*.c)
 COMPARE = $(wildcard tests/compare*.c) tests/support.c tests/counting.c tests/machines.c tests/forms.c
-TEXT = tests/text.c desk/assembler.c desk/files.c desk/listing.c desk/texts.c
-BENCH = $(wildcard bench/*.c) desk/files.c desk/texts.c
+TEXT = tests/text.c desk/assembler.c desk/files.c desk/listing.c desk/refusal.c desk/texts.c
+BENCH = $(wildcard bench/*.c) desk/files.c desk/refusal.c desk/texts.c
 TRIALS = tests/trials.c tests/counting.c tests/machines.c tests/forms.c
 HEADERS = $(wildcard bench/*.h desk/*.h tests/*.h second/*.h)
 
@@ -102,7 +102,7 @@ build/bench/objects/bench/sides.o: asked
 build/bench/before.o: $(BEFORE) asked
 	@mkdir -p $(dir $@)
 	ld -r -o $@ --whole-archive $<
-	objcopy $(foreach call,run step list level picture,--redefine-sym galhoveia_$(call)=before_$(call)) $@
+	objcopy $(foreach call,fresh run step list level picture,--redefine-sym galhoveia_$(call)=before_$(call)) $@
 	objcopy --wildcard --keep-global-symbol='before_*' $@
 
 build/sanitized/libstandin.a: $(patsubst %.c,build/sanitized/objects/%.o,tests/standin.c $(SECOND))
@@ -134,6 +134,9 @@ build/native/trials: $(patsubst %.c,build/native/objects/%.o,$(TRIALS) $(SECOND)
 build/native/forgetful: $(patsubst %.c,build/native/objects/%.o,$(DESK) tests/forgetful.c tests/standin.c $(SECOND))
 	$(CC) -Wl,--wrap=galhoveia_list -o $@ $^
 
+build/native/deaf: $(patsubst %.c,build/native/objects/%.o,$(DESK) tests/deaf.c tests/standin.c $(SECOND))
+	$(CC) -Wl,--wrap=galhoveia_step -o $@ $^
+
 build/native/text: $(patsubst %.c,build/native/objects/%.o,$(TEXT) second/instruction.c)
 	$(CC) -o $@ $^
 
@@ -148,16 +151,20 @@ build/sanitized/text: $(patsubst %.c,build/sanitized/objects/%.o,$(TEXT) second/
 
 # ---- Tests ----
 
-test: build/plain/header build/plain/header-cpp build/plain/desk build/plain/compare build/native/text build/native/trials \
-    build/native/forgetful
+# Desks with a fault in them, which they must find.
+FAULTY_DESKS = build/native/forgetful build/native/deaf
+
+test: build/plain/header build/plain/header-cpp build/plain/desk build/plain/compare build/native/text \
+    build/native/trials $(FAULTY_DESKS)
 	@tests/all.sh tests/newcomer.sh "tests/header.sh $(CC) $(CXX)" build/plain/header build/plain/header-cpp \
-	    build/native/text "tests/desk.sh build/plain/desk build/native/forgetful" "build/native/trials build/trials" \
+	    build/native/text "tests/desk.sh build/plain/desk $(FAULTY_DESKS)" "build/native/trials build/trials" \
 	    "tests/beside.sh 'build/plain/compare calls --trials build/trials' 'build/plain/compare runs --book $(BOOK) --events $(EVENTS)'"
 
 # A finding ends with 99, which no command of the desk does. Leaks are not looked for: every command would take seconds
 # to end, and none lives long.
-test-sanitized: build/sanitized/desk build/sanitized/compare build/sanitized/text build/native/trials build/native/forgetful
-	@ASAN_OPTIONS=detect_leaks=0:exitcode=99 UBSAN_OPTIONS=exitcode=99 tests/all.sh build/sanitized/text "tests/desk.sh build/sanitized/desk build/native/forgetful" \
+test-sanitized: build/sanitized/desk build/sanitized/compare build/sanitized/text build/native/trials $(FAULTY_DESKS)
+	@ASAN_OPTIONS=detect_leaks=0:exitcode=99 UBSAN_OPTIONS=exitcode=99 tests/all.sh build/sanitized/text \
+	    "tests/desk.sh build/sanitized/desk $(FAULTY_DESKS)" \
 	    "build/native/trials build/trials" \
 	    "tests/clean.sh build/sanitized/compare calls --trials build/trials --machines 2 --cell-stride 200" \
 	    "tests/clean.sh build/sanitized/compare runs --book $(BOOK) --events $(SANITIZED_EVENTS) --cell-stride 20"

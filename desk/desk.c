@@ -1,9 +1,9 @@
 /* The desk command: panel books, machine states and scripts as files, worked on by the library of galhoveia.h. */
 #include "drawing.h"
-#include "panel.h"
-#include "refusal.h"
+#include "run.h"
 #include "texts.h"
 #include "watch.h"
+#include "wave.h"
 
 #include <stdio.h>
 #include <stdlib.h>
@@ -121,30 +121,6 @@ static enum status work_fresh(const struct command *command, int count, char **w
     return DONE;
 }
 
-/* Runs a stretch of events and says how it ended. A run before an unlisted word is a refusal, but its state counts. */
-static uint32_t run_events(const struct book *book, struct state *state, const uint8_t *events, size_t length,
-                           uint32_t stop, uint32_t *reason, uint64_t *done)
-{
-    uint64_t value = 0;
-    uint32_t refusal;
-
-    *reason = GALHOVEIA_AT_END;
-    *done = 0;
-    refusal = galhoveia_run(book->program.at, book->program.length, state->memory, sizeof state->memory, state->record,
-                            sizeof state->record, events, length, stop, reason, done, &value);
-    if (refusal != GALHOVEIA_DONE)
-        say_refusal("the run", refusal, value);
-    if (refusal != GALHOVEIA_DONE && refusal != GALHOVEIA_UNLISTED_WORD)
-        return refusal;
-    printf("%llu of %zu events done; stopped ", (unsigned long long)*done, length);
-    if (*reason == GALHOVEIA_AT_ADDRESS)
-        printf("at $%03lX\n", (unsigned long)stop);
-    else
-        printf(*reason == GALHOVEIA_AT_UNLISTED ? "before a word that is no instruction\n" : "at the script's end\n");
-    show_registers(state);
-    return refusal;
-}
-
 static struct look look_from(const struct command *command, bool raw, const char *digits, const char *columns)
 {
     struct look look = {raw, 0, COLUMNS_USUAL};
@@ -157,72 +133,122 @@ static struct look look_from(const struct command *command, bool raw, const char
     return look;
 }
 
+static uint32_t rate_from(const struct command *command, const char *rate)
+{
+    uint32_t hertz = decimal_from(command, rate, UINT32_MAX);
+
+    if (hertz != RATE_USUAL && hertz != RATE_FAST)
+        wrong_use(command, "the rate of a sound clock is 32768 or 112500, not", rate);
+    return hertz;
+}
+
+/* What is wanted of a run beside its end. */
+struct wishes {
+    struct watch watch;
+    const char *wave, *save;
+    uint32_t rate;
+    bool show, force;
+    struct look look;
+};
+
+static bool make_wave(const struct wishes *wishes, const struct run *run)
+{
+    struct sound sound;
+    bool faultless = hear(&sound, run);
+
+    if (faultless)
+        write_wave(wishes->wave, &sound, wishes->rate, wishes->force);
+    free(sound.outputs);
+    return faultless;
+}
+
+static enum status fulfil(struct wishes *wishes, const struct run *run)
+{
+    bool faultless = wishes->watch.count == 0 || show_changes(&wishes->watch, run);
+
+    if (wishes->wave != NULL)
+        faultless = make_wave(wishes, run) && faultless;
+    if (wishes->save != NULL) {
+        if (wishes->wave != NULL && is_same_file(wishes->wave, wishes->save))
+            fail("the state is not saved: %s is the file of the sound, %s", wishes->save, wishes->wave);
+        write_state(wishes->save, &run->end, wishes->force);
+        printf("state saved in %s\n", wishes->save);
+    }
+    if (wishes->show
+        && !(show_picture(run->book, &run->end, "the picture", wishes->look)
+             && show_level(run->book, &run->end, "the level")))
+        return faultless ? REFUSED : FAULT;
+    return faultless ? DONE : FAULT;
+}
+
+/* What can be found wrong with the files to be written before anything is read. */
+static void may_fulfil(const struct command *command, const struct wishes *wishes)
+{
+    if (wishes->wave != NULL && wishes->save != NULL && is_same_file(wishes->wave, wishes->save))
+        wrong_use(command, "state and sound go into two files, not both into", wishes->save);
+    if (wishes->wave != NULL)
+        may_write(wishes->wave, wishes->force);
+    if (wishes->save != NULL)
+        may_write(wishes->save, wishes->force);
+}
+
+/* The run's events from its start, and what is wanted of it. */
+static enum status run_and_fulfil(struct run *run, uint32_t stop, struct wishes *wishes)
+{
+    uint32_t refusal = run_events(run, stop);
+    enum status status = REFUSED;
+
+    if (refusal == GALHOVEIA_DONE || refusal == GALHOVEIA_UNLISTED_WORD)
+        status = fulfil(wishes, run);
+    return refusal != GALHOVEIA_DONE && status == DONE ? REFUSED : status;
+}
+
 static enum status work_run(const struct command *command, int count, char **words)
 {
-    const char *others[2], *stop = NULL, *from = NULL, *save = NULL, *options = NULL, *digits = "0", *columns = NULL;
-    const char *cell = NULL;
-    bool force = false, raw_script = false, show = false, level = false;
-    const struct option known[] = {{"--stop", &stop, NULL},     {"--state", &from, NULL},
-                                   {"--save", &save, NULL},     {"--options", &options, NULL},
-                                   {"--digits", &digits, NULL}, {"--columns", &columns, NULL},
-                                   {"--watch", &cell, NULL},    {"--watch-level", NULL, &level},
-                                   {"--force", NULL, &force},   {"--raw-script", NULL, &raw_script},
-                                   {"--show", NULL, &show},     {NULL, NULL, NULL}};
-    uint32_t stop_address = GALHOVEIA_NO_STOP, cell_address = 0, refusal, reason;
-    struct watch watch = {.count = 0};
-    struct look look;
+    const char *others[2], *stop = NULL, *from = NULL, *options = NULL, *digits = "0", *columns = NULL;
+    const char *cell = NULL, *rate = NULL;
+    bool raw_script = false, level = false;
+    struct wishes wishes = {.watch = {.count = 0}, .rate = RATE_USUAL};
+    const struct option known[] = {{"--stop", &stop, NULL},        {"--state", &from, NULL},
+                                   {"--save", &wishes.save, NULL}, {"--options", &options, NULL},
+                                   {"--digits", &digits, NULL},    {"--columns", &columns, NULL},
+                                   {"--watch", &cell, NULL},       {"--watch-level", NULL, &level},
+                                   {"--wav", &wishes.wave, NULL},  {"--rate", &rate, NULL},
+                                   {"--force", NULL, &wishes.force},
+                                   {"--raw-script", NULL, &raw_script},
+                                   {"--show", NULL, &wishes.show}, {NULL, NULL, NULL}};
+    uint32_t stop_address = GALHOVEIA_NO_STOP, cell_address = 0;
     struct book book;
-    struct state state, start;
-    struct bytes script;
-    uint64_t done;
-    enum status status = DONE;
+    struct run run = {.book = &book};
+    enum status status = REFUSED;
 
     take_words(command, count, words, known, others, 2);
-    look = look_from(command, false, digits, columns);
+    wishes.look = look_from(command, false, digits, columns);
     if (stop != NULL)
         stop_address = hex_from(command, stop);
     if (cell != NULL)
         cell_address = hex_from(command, cell);
     if (from != NULL && options != NULL)
         wrong_use(command, "--options is for a fresh machine, so not with", "--state");
-    if (save != NULL)
-        may_write(save, force);
-    script = raw_script ? read_file(others[1], SCRIPT_FILE_MOST)
-                        : read_text(others[1], SCRIPT_FILE_MOST, script_from_text);
+    if (rate != NULL && wishes.wave == NULL)
+        wrong_use(command, "--rate is for the file of", "--wav");
+    if (rate != NULL)
+        wishes.rate = rate_from(command, rate);
+    may_fulfil(command, &wishes);
+    run.events = raw_script ? read_file(others[1], SCRIPT_FILE_MOST)
+                            : read_text(others[1], SCRIPT_FILE_MOST, script_from_text);
     if (from != NULL)
-        read_state(from, &state);
-    else if (!make_fresh(&state, options ? decimal_from(command, options, UINT32_MAX) : 0))
-        status = REFUSED;
-    if (status == DONE && !read_book(others[0], &book))
-        status = REFUSED;
-    if (status == REFUSED) {
-        free(script.at);
-        return REFUSED;
-    }
-    if (show)
-        may_draw(&book, look);
-    if ((level && !watch_level(&watch, &book)) || (cell != NULL && !watch_cell(&watch, &book, cell_address, ""))) {
-        free(script.at);
+        read_state(from, &run.start);
+    if ((from != NULL || make_fresh(&run.start, options ? decimal_from(command, options, UINT32_MAX) : 0))
+        && read_book(others[0], &book)) {
+        if (wishes.show)
+            may_draw(&book, wishes.look);
+        if ((!level || watch_level(&wishes.watch, &book))
+            && (cell == NULL || watch_cell(&wishes.watch, &book, cell_address, "")))
+            status = run_and_fulfil(&run, stop_address, &wishes);
         free(book.file.at);
-        return REFUSED;
     }
-    start = state;
-    refusal = run_events(&book, &state, script.at, script.length, stop_address, &reason, &done);
-    status = refusal == GALHOVEIA_DONE ? DONE : REFUSED;
-    if (refusal == GALHOVEIA_DONE || refusal == GALHOVEIA_UNLISTED_WORD) {
-        bool faultless = watch.count == 0 || show_changes(&watch, &book, &start, script.at, done, &state);
-
-        if (save != NULL) {
-            write_state(save, &state, force);
-            printf("state saved in %s\n", save);
-        }
-        if (show && !(show_picture(&book, &state, "the picture", look) && show_level(&book, &state, "the level")))
-            status = REFUSED;
-        if (!faultless)
-            status = FAULT;
-    }
-    free(script.at);
-    free(book.file.at);
+    free(run.events.at);
     return status;
 }
 
@@ -350,43 +376,59 @@ static char *path_in(const char *folder, const char *file)
     return path;
 }
 
-/* Lets the script's events happen to a fresh chip. Answers whether all went well, with the chip before and after. */
-static bool demo_run(const struct book *book, struct bytes script, struct state *start, struct state *state)
+/* What the chime said between two waits. */
+static bool show_strokes(const struct run *run)
+{
+    struct sound sound;
+    bool faultless = hear(&sound, run);
+    size_t strokes = strokes_in(&sound);
+
+    if (strokes == 0)
+        printf("heard no stroke\n");
+    else
+        printf("heard %zu stroke%s%s\n", strokes, strokes == 1 ? "" : "s",
+               strokes == 1 ? ": up" : strokes == 2 ? ": down" : "");
+    free(sound.outputs);
+    return faultless;
+}
+
+/* Lets the run's events happen, with a stop at each wait for a call, at which the panel is shown and the chime told. */
+static enum status demo_run(struct run *run)
 {
     const struct look look = {false, DEMO_DIGITS, COLUMNS_USUAL};
-    uint32_t reason = GALHOVEIA_AT_ADDRESS;
-    size_t at = 0;
+    struct run part = *run;
 
-    if (!make_fresh(start, 0))
-        return false;
-    *state = *start;
-    while (reason == GALHOVEIA_AT_ADDRESS) {
-        uint64_t done;
-
-        if (run_events(book, state, script.at + at, script.length - at, DEMO_STOP, &reason, &done) != GALHOVEIA_DONE)
-            return false;
-        at += (size_t)done;
-        if (reason != GALHOVEIA_AT_ADDRESS)
-            break;
-        if (!show_picture(book, state, "the picture", look) || !show_level(book, state, "the level"))
-            return false;
+    for (;;) {
+        if (run_events(&part, DEMO_STOP) != GALHOVEIA_DONE)
+            return REFUSED;
+        run->done += part.done;
+        run->end = part.end;
+        if (part.reason != GALHOVEIA_AT_ADDRESS)
+            return DONE;
+        if (!show_picture(part.book, &part.end, "the picture", look) || !show_level(part.book, &part.end, "the level"))
+            return REFUSED;
+        if (!show_strokes(&part))
+            return FAULT;
+        part.start = part.end;
+        part.events.at += part.done;
+        part.events.length -= (size_t)part.done;
         printf("\n");
     }
-    return true;
 }
 
 static enum status demo_of(const struct book *book, struct bytes script)
 {
-    struct state start, end;
+    struct run run = {.book = book, .events = script};
     struct watch watch = {.count = 0};
+    enum status status = make_fresh(&run.start, 0) ? demo_run(&run) : REFUSED;
 
-    if (!demo_run(book, script, &start, &end))
-        return REFUSED;
+    if (status != DONE)
+        return status;
     printf("\n3. Who can write the level cells: these instructions and no others\n\n");
     if (!show_level_writers(book) || !watch_level(&watch, book))
         return REFUSED;
     printf("\n4. Who did write them in this run\n\n");
-    return show_changes(&watch, book, &start, script.at, script.length, &end) ? DONE : FAULT;
+    return show_changes(&watch, &run) ? DONE : FAULT;
 }
 
 static enum status work_demo(const struct command *command, int count, char **words)
@@ -407,7 +449,8 @@ static enum status work_demo(const struct command *command, int count, char **wo
         printf("1. The book\n\n");
         show_book(book_path, &book);
         printf("\n2. The script %s, shown whenever the program waits for a call (stop at $%03X):\n   once it is ready, "
-               "then after a call below the ground stop, then after one above it\n\n", script_path, DEMO_STOP);
+               "then after a call below the ground stop, then after one above it; and heard: the chime\n"
+               "   strikes once for up, twice for down\n\n", script_path, DEMO_STOP);
         status = demo_of(&book, script);
         free(book.file.at);
     }
@@ -422,25 +465,28 @@ static enum status work_demo(const struct command *command, int count, char **wo
 static const char *const run_texts[] = {script_help, NULL};
 static const char *const make_texts[] = {program_help, wiring_help, level_help, NULL};
 
-static const char state_help[] = "A state file is the memory (1,024 bytes), then the record (37 bytes).\n";
+#define STATE_HELP "A state file is the memory (1,024 bytes), then the record (43 bytes).\n"
 
 static const struct command commands[] = {
     {"demo", "demo [FOLDER]", "runs the example dispatcher and shows what the desk can do",
      "FOLDER holds dispatcher.book and dispatcher.script; it is examples if not given.\n", NULL, work_demo},
     {"fresh", "fresh STATE [--options N] [--force]", "makes the state of a chip just switched on",
      "N is 0 to 7: 1 watchdog on, 2 bonding bit BD0, 4 bonding bit BD1, added up; 0 if not given.\n"
-     "A state file is the memory (1,024 bytes), then the record (37 bytes).\n", NULL, work_fresh},
+     STATE_HELP, NULL, work_fresh},
     {"run", "run BOOK SCRIPT [--stop HEX] [--state FILE | --options N] [--save FILE] [--force]\n"
-            "                [--raw-script] [--show [--digits N] [--columns N]] [--watch CELL] [--watch-level]",
+            "                [--raw-script] [--show [--digits N] [--columns N]] [--watch CELL] [--watch-level]\n"
+            "                [--wav FILE [--rate HZ]]",
      "lets a script's events happen to a book's chip",
      "The chip is fresh, or as in the state FILE. --stop ends the run after a cycle that leaves PC at HEX. --save writes\n"
      "the state after the run, also after one that stopped before a word that is no instruction (refusal 6). --show\n"
      "shows picture and level after it, drawn as desk picture --help tells.\n"
      "--watch tells each change of a cell during the run: the event's number, counted from 0, the cell before and after\n"
      "it, and the instruction that did it; then how many of the cell's writers (desk writers) changed it, and which\n"
-     "never did. CELL is in hex: a data, display or scan cell. --watch-level watches both digits of the level.\n",
+     "never did. CELL is in hex: a data, display or scan cell. --watch-level watches both digits of the level.\n"
+     "--wav writes what the sound channels put out, a sample for each sound clock that was done, channel 1 left and\n"
+     "channel 2 right, as a WAV file. HZ is the sound clock: 32768 (if not given) or 112500.\n",
      run_texts, work_run},
-    {"level", "level BOOK STATE", "tells the level that a state's panel stands at", state_help, NULL, work_level},
+    {"level", "level BOOK STATE", "tells the level that a state's panel stands at", STATE_HELP, NULL, work_level},
     {"picture", "picture BOOK STATE [--digits N] [--columns N] [--raw]", "draws what a state's panel shows",
      "# is lit, . is dark, in the order of the wiring. With --digits N the first 7N elements are drawn as N\n"
      "seven-segment digits, each wired in the order a to g. --columns N puts N elements in a row (16 if not given).\n"
@@ -463,7 +509,7 @@ static void print_overview(FILE *to)
     fprintf(to, "\ndesk COMMAND --help tells more of one. No file is written over unless --force is given.\n"
                 "Exit status: 0 done; 1 refused by the library, which is said with its number and value; 2 wrong use,\n"
                 "or a file that cannot be read, is in the way, or is not what it should be; 3 a fault of the library,\n"
-                "which a watched run and the demo look for.\n");
+                "which a watched run, a run that is heard, and the demo look for.\n");
 }
 
 static void print_help(const struct command *command)

@@ -4,25 +4,11 @@
 
 #include <errno.h>
 #include <fcntl.h>
-#include <stdarg.h>
 #include <stdio.h>
 #include <stdlib.h>
 #include <string.h>
 #include <sys/stat.h>
 #include <unistd.h>
-
-_Noreturn void fail(const char *format, ...)
-{
-    va_list arguments;
-
-    fflush(stdout);
-    fprintf(stderr, "desk: ");
-    va_start(arguments, format);
-    vfprintf(stderr, format, arguments);
-    va_end(arguments);
-    fprintf(stderr, "\n");
-    exit(WRONG_USE);
-}
 
 void *take_memory(size_t count, size_t size)
 {
@@ -92,6 +78,15 @@ void may_write(const char *path, bool force)
         fail("cannot write %s: it is no ordinary file and is left as it is, --force or not", path);
     if (!force)
         fail("%s exists and is left as it is; --force writes over it", path);
+}
+
+bool is_same_file(const char *one, const char *other)
+{
+    struct stat first, second;
+
+    return strcmp(one, other) == 0
+           || (stat(one, &first) == 0 && stat(other, &second) == 0 && first.st_dev == second.st_dev
+               && first.st_ino == second.st_ino);
 }
 
 /* Gives the finished file its name without writing over another. Where the file system has no links, the name is

@@ -3,19 +3,16 @@
 #ifndef DESK_FILES_H
 #define DESK_FILES_H
 
+#include "refusal.h"
+
 #include <stdbool.h>
 #include <stddef.h>
 #include <stdint.h>
-
-enum status { DONE = 0, REFUSED = 1, WRONG_USE = 2, FAULT = 3 };
 
 struct bytes {
     uint8_t *at;
     size_t length;
 };
-
-/* Says what is wrong and ends the command with WRONG_USE. */
-_Noreturn void fail(const char *format, ...) __attribute__((format(printf, 1, 2)));
 
 /* Memory for so many things, or the command ends. */
 void *take_memory(size_t count, size_t size);
@@ -28,6 +25,9 @@ struct bytes read_file(const char *path, size_t most);
    folder, device, pipe or link is there, which a file that gets its name would take away. Asked before any work is
    done. */
 void may_write(const char *path, bool force);
+
+/* Whether two paths name one file. Of files that are not there yet the spelling tells. */
+bool is_same_file(const char *one, const char *other);
 
 /* Writes beside the file first and then gives it its name, so that no half of it is ever seen under that name. */
 void write_file(const char *path, const uint8_t *bytes, size_t length, bool force);

@@ -5,7 +5,7 @@
 
      program   8,192 bytes: 4,096 words of 16 bits, high byte first; word n is at bytes 2n and 2n + 1
      memory    1,024 bytes: one nibble of the chip's RAM in each, at the chip's own addresses $000 to $3FF
-     record    37 bytes: the registers that are not in RAM, as listed below
+     record    43 bytes: the registers that are not in RAM, as listed below
      script    any number of bytes: what happens to the chip, one event in each
      book      a file of the records desk: a program, the wiring of a panel, and where the panel keeps its level
 
@@ -54,7 +54,7 @@ extern "C" {
 #define GALHOVEIA_WORDS          4096
 #define GALHOVEIA_PROGRAM_BYTES  8192
 #define GALHOVEIA_MEMORY_BYTES   1024
-#define GALHOVEIA_RECORD_BYTES   37
+#define GALHOVEIA_RECORD_BYTES   43
 #define GALHOVEIA_LEVELS         8    /* stack entries */
 #define GALHOVEIA_LEVEL_BYTES    5    /* a book's level body */
 #define GALHOVEIA_ELEMENT_BYTES  3    /* one element of a book's wiring body */
@@ -68,7 +68,7 @@ enum {
     GALHOVEIA_PROGRAM_LENGTH = 1, /* the program is not 8,192 bytes long; value: the length lent, in bytes */
     GALHOVEIA_MEMORY_LENGTH = 2,  /* the memory is not 1,024 bytes long; value: the length lent */
     GALHOVEIA_MEMORY_CELL = 3,    /* a memory byte has a bit that its cell cannot hold; value: the lowest such address */
-    GALHOVEIA_RECORD = 4,         /* the record is not 37 bytes long, or breaks a rule listed below; value: 0 */
+    GALHOVEIA_RECORD = 4,         /* the record is not 43 bytes long, or breaks a rule listed below; value: 0 */
     GALHOVEIA_UNKNOWN_EVENT = 5,  /* an event byte means nothing; value: the first such place, counted from 0 */
     GALHOVEIA_UNLISTED_WORD = 6,  /* a cycle would execute a word that is no instruction; value: its program address */
     GALHOVEIA_ROOM = 7,           /* the area for the result is too small; value: the bytes needed */
@@ -103,7 +103,12 @@ enum {
     GALHOVEIA_RECORD_OPTIONS = 33,         /* 0 to 7: bit 0 watchdog on, bits 1 and 2 the bonding bits, which bits 0 and
                                               1 of memory cell $00C repeat */
     GALHOVEIA_RECORD_PENDING = 34,         /* 0 or 1: a read of program data is under way */
-    GALHOVEIA_RECORD_PENDING_ADDRESS = 35  /* 2 bytes, 0 to 4095: its address; 0 when none is under way */
+    GALHOVEIA_RECORD_PENDING_ADDRESS = 35, /* 2 bytes, 0 to 4095: its address; 0 when none is under way */
+    GALHOVEIA_RECORD_COUNT_1 = 37,         /* 2 bytes, 0 to 1015: the sound clocks left until channel 1's output turns
+                                              over; 0: as many as its registers tell at the next clock */
+    GALHOVEIA_RECORD_OUTPUT_1 = 39,        /* 0 or 1: what channel 1 puts out */
+    GALHOVEIA_RECORD_COUNT_2 = 40,         /* 2 bytes: the same of channel 2 */
+    GALHOVEIA_RECORD_OUTPUT_2 = 42
 };
 
 enum { GALHOVEIA_RUNNING = 0, GALHOVEIA_HALT = 1, GALHOVEIA_STOP = 2 };
@@ -114,11 +119,19 @@ enum {
     GALHOVEIA_EVENT_BASE = 0x01,     /* one pulse of the base timer's clock */
     GALHOVEIA_EVENT_WATCHDOG = 0x02, /* one millisecond for the watchdog */
     GALHOVEIA_EVENT_RESET = 0x03,    /* the reset pin */
+    GALHOVEIA_EVENT_SOUND = 0x05,    /* one clock of the sound generator */
     GALHOVEIA_EVENT_PINS_A = 0x10,
     GALHOVEIA_EVENT_PINS_B = 0x20,
     GALHOVEIA_EVENT_PINS_C = 0x30,
     GALHOVEIA_EVENT_PINS_D = 0x40
 };
+
+/* Sound: two channels of square tones. A channel runs while it is enabled ($377 bit 0 or 1), the seven bits of its tone
+   are not 0, and, for channel 2, bits 0 and 1 of $370 are 0. On a sound clock of a channel that runs, a count of 0
+   becomes N, or 8N with the octave bit; then the count falls by one, and where it is then 0 the output turns over. A
+   channel that does not run keeps both, and so does every channel in STOP. The data sheet's table gives N, 1 to 127, by
+   the seven bits: those of channel 1 are $372 bits 2-0 and $371, its octave bit is $372 bit 3; those of channel 2 are
+   $376 bits 2-0 and $375, its octave bit is $376 bit 3. */
 
 /* Why a run stopped. */
 enum { GALHOVEIA_AT_ADDRESS = 0, GALHOVEIA_AT_UNLISTED = 1, GALHOVEIA_AT_END = 2 };

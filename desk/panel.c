@@ -3,13 +3,16 @@
 
 #include "drawing.h"
 #include "listing.h"
-#include "refusal.h"
 
 #include <stdio.h>
 #include <stdlib.h>
 #include <string.h>
 
-enum { STATE_BYTES = GALHOVEIA_MEMORY_BYTES + GALHOVEIA_RECORD_BYTES, NOP = 0xFFFF };
+/* Versions that had no sound wrote states with a record of 37 bytes. */
+enum {
+    STATE_BYTES = GALHOVEIA_MEMORY_BYTES + GALHOVEIA_RECORD_BYTES, SOUNDLESS_STATE_BYTES = GALHOVEIA_MEMORY_BYTES + 37,
+    NOP = 0xFFFF
+};
 
 /* ---- Files ---- */
 
@@ -17,6 +20,9 @@ void read_state(const char *path, struct state *state)
 {
     struct bytes file = read_file(path, FILE_MOST);
 
+    if (file.length == SOUNDLESS_STATE_BYTES)
+        fail("%s is a state of a version before sound: it has %zu bytes, and a state now has %d; make it anew by desk "
+             "fresh, or by desk run --save with the script that led to it", path, file.length, STATE_BYTES);
     if (file.length != STATE_BYTES)
         fail("%s is no state: it has %zu bytes, and a state has %d (%d of memory, %d of record)", path, file.length,
              STATE_BYTES, GALHOVEIA_MEMORY_BYTES, GALHOVEIA_RECORD_BYTES);
@@ -131,6 +137,9 @@ void show_registers(const struct state *state)
 
     printf("PC $%03X, AC %u, CY %u, %s\n", two(record + GALHOVEIA_RECORD_PC), record[GALHOVEIA_RECORD_AC],
            record[GALHOVEIA_RECORD_CY], modes[record[GALHOVEIA_RECORD_MODE]]);
+    printf("sound channel 1: output %u, count %u; channel 2: output %u, count %u\n", record[GALHOVEIA_RECORD_OUTPUT_1],
+           two(record + GALHOVEIA_RECORD_COUNT_1), record[GALHOVEIA_RECORD_OUTPUT_2],
+           two(record + GALHOVEIA_RECORD_COUNT_2));
 }
 
 bool ask_writers(const struct book *book, uint32_t cell, struct writers *writers)

@@ -1,9 +1,11 @@
-/* A refusal in words, with its number and value. */
+/* What keeps a command from its work, in words. */
 #include "refusal.h"
 
 #include "galhoveia.h"
 
+#include <stdarg.h>
 #include <stdio.h>
+#include <stdlib.h>
 
 void say_refusal(const char *what, uint32_t number, uint64_t value)
 {
@@ -57,4 +59,37 @@ void say_refusal(const char *what, uint32_t number, uint64_t value)
         break;
     }
     fprintf(stderr, "\n");
+}
+
+static void say(const char *kind, const char *format, va_list arguments)
+{
+    fflush(stdout);
+    fprintf(stderr, "desk: %s", kind);
+    vfprintf(stderr, format, arguments);
+    fprintf(stderr, "\n");
+}
+
+_Noreturn void fail(const char *format, ...)
+{
+    va_list arguments;
+
+    va_start(arguments, format);
+    say("", format, arguments);
+    va_end(arguments);
+    exit(WRONG_USE);
+}
+
+bool say_fault(const char *format, ...)
+{
+    va_list arguments;
+
+    va_start(arguments, format);
+    say("FAULT: ", format, arguments);
+    va_end(arguments);
+    return false;
+}
+
+bool ask_report(void)
+{
+    return say_fault("this must never be; please keep book, state and script, and report it");
 }

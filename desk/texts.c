@@ -49,11 +49,8 @@ struct reader {
     unsigned long line;
 };
 
-/* The next word of the text, with comments from # to the line's end passed over. Answers its length, 0 at the end. */
-static size_t next_word(struct reader *reader, const char **word)
+static void skip_blanks(struct reader *reader)
 {
-    size_t length = 0;
-
     for (;;) {
         if (*reader->at == '#')
             reader->at += strcspn(reader->at, "\n");
@@ -62,7 +59,20 @@ static size_t next_word(struct reader *reader, const char **word)
         reader->line += *reader->at == '\n';
         reader->at++;
     }
-    while (reader->at[length] != '\0' && reader->at[length] != '#' && !isspace((unsigned char)reader->at[length]))
+}
+
+static bool ends_word(char letter)
+{
+    return letter == '\0' || letter == '#' || isspace((unsigned char)letter);
+}
+
+/* The next word of the text, with comments from # to the line's end passed over. Answers its length, 0 at the end. */
+static size_t next_word(struct reader *reader, const char **word)
+{
+    size_t length = 0;
+
+    skip_blanks(reader);
+    while (!ends_word(reader->at[length]))
         length++;
     *word = reader->at;
     reader->at += length;
@@ -77,12 +87,14 @@ const char script_help[] =
     "  base               one pulse of the base timer's clock\n"
     "  watchdog           one millisecond for the watchdog\n"
     "  reset              the reset pin\n"
+    "  sound              one clock of the sound generator\n"
     "  a=5 b=F c=0 d=1    the four pins of port A, B, C or D become this hex digit, pin 3 first\n"
     "  $2A                an event by its byte, two hex digits\n"
     "  EVENT*N            the event N times, N in decimal: cycle*100\n"
+    "  (EVENTS)*N         what stands in the brackets N times: (cycle sound*4)*200; a group may stand in a group\n"
     "With --raw-script the file holds the event bytes themselves.\n";
 
-enum { SCRIPT_MOST = 1 << 30 };
+enum { SCRIPT_MOST = 1 << 30, GROUPS_MOST = 16 };
 
 static bool is_word(const char *word, size_t length, const char *name)
 {
@@ -97,7 +109,8 @@ static bool event_from(const char *word, size_t length, uint8_t *event)
     } named[] = {{"cycle", GALHOVEIA_EVENT_CYCLE},
                  {"base", GALHOVEIA_EVENT_BASE},
                  {"watchdog", GALHOVEIA_EVENT_WATCHDOG},
-                 {"reset", GALHOVEIA_EVENT_RESET}};
+                 {"reset", GALHOVEIA_EVENT_RESET},
+                 {"sound", GALHOVEIA_EVENT_SOUND}};
     static const char ports[] = "abcd";
 
     for (size_t at = 0; at < sizeof named / sizeof named[0]; at++)
@@ -116,40 +129,136 @@ static bool event_from(const char *word, size_t length, uint8_t *event)
     return false;
 }
 
+/* A script that is being read, and the groups that are open in it: where each begins, in the script and in the text. */
+struct growing {
+    struct reader reader;
+    struct bytes script;
+    size_t room;
+    struct {
+        size_t from;
+        unsigned long line;
+    } group[GROUPS_MOST];
+    size_t open;
+};
+
+/* The next bracket or event with what stands right behind it, as next_word has it. */
+static size_t next_part(struct reader *reader, const char **part)
+{
+    size_t length = 0;
+
+    skip_blanks(reader);
+    *part = reader->at;
+    if (*reader->at == '(') {
+        reader->at++;
+        return 1;
+    }
+    length += *reader->at == ')';
+    while (!ends_word(reader->at[length]) && reader->at[length] != '(' && reader->at[length] != ')')
+        length++;
+    reader->at += length;
+    return length;
+}
+
+/* How often, by what stands behind the name's end: nothing for once, or a star and a number. */
+static size_t times_of(const struct reader *reader, const char *part, size_t length, size_t name)
+{
+    const char *digits = part + name + 1;
+    size_t count = length - name - 1;
+    unsigned long long times = 1;
+
+    if (name == length)
+        return 1;
+    if (part[name] != '*' || strspn(digits, "0123456789") < count || !number_from(digits, count, SCRIPT_MOST, &times))
+        fail("%s:%lu: %.*s: how many times? A decimal number up to %d stands after *", reader->path, reader->line,
+             (int)length, part, SCRIPT_MOST);
+    return (size_t)times;
+}
+
+static void make_room(struct growing *growing, size_t length)
+{
+    uint8_t *more;
+
+    if (length <= growing->room)
+        return;
+    growing->room = 2 * length;
+    more = realloc(growing->script.at, growing->room);
+    if (more == NULL)
+        fail("not enough memory for the script");
+    growing->script.at = more;
+}
+
+/* What the script has from `from` on stands there so many times. */
+static void repeat_from(struct growing *growing, size_t from, size_t times)
+{
+    size_t once = growing->script.length - from, whole = once * times;
+
+    if (times > 0 && once > (SCRIPT_MOST - from) / times)
+        fail("%s:%lu: the script has more than %d events", growing->reader.path, growing->reader.line, SCRIPT_MOST);
+    make_room(growing, from + whole);
+    for (size_t done = once; done < whole;) {
+        size_t part = done < whole - done ? done : whole - done;
+
+        memcpy(growing->script.at + from + done, growing->script.at + from, part);
+        done += part;
+    }
+    growing->script.length = from + whole;
+}
+
+static void open_group(struct growing *growing)
+{
+    if (growing->open == GROUPS_MOST)
+        fail("%s:%lu: more than %d groups stand in each other", growing->reader.path, growing->reader.line,
+             GROUPS_MOST);
+    growing->group[growing->open].from = growing->script.length;
+    growing->group[growing->open].line = growing->reader.line;
+    growing->open++;
+}
+
+static void close_group(struct growing *growing, const char *part, size_t length)
+{
+    size_t times;
+
+    if (growing->open == 0)
+        fail("%s:%lu: %.*s closes a group that no ( opens", growing->reader.path, growing->reader.line, (int)length,
+             part);
+    times = times_of(&growing->reader, part, length, 1);
+    growing->open--;
+    repeat_from(growing, growing->group[growing->open].from, times);
+}
+
+static void add_events(struct growing *growing, const char *part, size_t length)
+{
+    const char *star = memchr(part, '*', length);
+    size_t name = star ? (size_t)(star - part) : length, times, from = growing->script.length;
+    uint8_t event;
+
+    if (!event_from(part, name, &event))
+        fail("%s:%lu: %.*s is no event (desk run --help lists them)", growing->reader.path, growing->reader.line,
+             (int)length, part);
+    times = times_of(&growing->reader, part, length, name);
+    make_room(growing, from + 1);
+    growing->script.at[from] = event;
+    growing->script.length = from + 1;
+    repeat_from(growing, from, times);
+}
+
 struct bytes script_from_text(const char *path, const char *text)
 {
-    struct reader reader = {path, text, 1};
-    struct bytes script = {take_memory(1, 1), 0};
-    size_t room = 1;
-    const char *word;
+    struct growing growing = {.reader = {path, text, 1}, .script = {take_memory(1, 1), 0}, .room = 1};
+    const char *part;
     size_t length;
 
-    while ((length = next_word(&reader, &word)) != 0) {
-        const char *star = memchr(word, '*', length);
-        size_t name = star ? (size_t)(star - word) : length;
-        unsigned long long times = 1;
-        uint8_t event;
-
-        if (!event_from(word, name, &event))
-            fail("%s:%lu: %.*s is no event (desk run --help lists them)", path, reader.line, (int)length, word);
-        if (star && (strspn(star + 1, "0123456789") < length - name - 1 || !number_from(star + 1, length - name - 1, SCRIPT_MOST, &times)))
-            fail("%s:%lu: %.*s: how many times? A decimal number up to %d stands after *", path, reader.line,
-                 (int)length, word, SCRIPT_MOST);
-        if (times > SCRIPT_MOST - script.length)
-            fail("%s:%lu: the script has more than %d events", path, reader.line, SCRIPT_MOST);
-        if (script.length + times > room) {
-            uint8_t *more;
-
-            room = 2 * (script.length + (size_t)times);
-            more = realloc(script.at, room);
-            if (more == NULL)
-                fail("not enough memory for the script");
-            script.at = more;
-        }
-        memset(script.at + script.length, event, (size_t)times);
-        script.length += (size_t)times;
+    while ((length = next_part(&growing.reader, &part)) != 0) {
+        if (*part == '(')
+            open_group(&growing);
+        else if (*part == ')')
+            close_group(&growing, part, length);
+        else
+            add_events(&growing, part, length);
     }
-    return script;
+    if (growing.open > 0)
+        fail("%s:%lu: the group that begins here has no ) at its end", path, growing.group[growing.open - 1].line);
+    return growing.script;
 }
 
 /* ---- Wirings ---- */

@@ -1,9 +1,6 @@
 /* Cells watched while a script's events happen. */
 #include "watch.h"
 
-#include "refusal.h"
-
-#include <stdarg.h>
 #include <stdio.h>
 #include <string.h>
 
@@ -41,22 +38,6 @@ bool watch_level(struct watch *watch, const struct book *book)
 }
 
 /* ---- A run's events, one by one ---- */
-
-/* Says what only a mistake in the library or in this command can bring about. Answers false: not without fault. */
-static bool say_fault(const char *format, ...) __attribute__((format(printf, 1, 2)));
-
-static bool say_fault(const char *format, ...)
-{
-    va_list arguments;
-
-    fflush(stdout);
-    fprintf(stderr, "desk: FAULT: ");
-    va_start(arguments, format);
-    vfprintf(stderr, format, arguments);
-    va_end(arguments);
-    fprintf(stderr, "\n");
-    return false;
-}
 
 /* A cycle of a running machine in which no enabled interrupt is requested: what the list of writers speaks of. */
 static bool executes(const struct state *before, uint8_t event)
@@ -105,16 +86,16 @@ static void show_writers_seen(const struct watched *watched, const struct book *
 }
 
 /* Each event by a single step. Answers whether the run's end was come to without a fault. */
-static bool step_through(struct watch *watch, const struct book *book, struct state now, const uint8_t *events,
-                         uint64_t done, const struct state *end)
+static bool step_through(struct watch *watch, const struct run *run)
 {
+    struct state now = run->start;
     bool faultless = true;
 
-    for (uint64_t place = 0; place < done; place++) {
+    for (uint64_t place = 0; place < run->done; place++) {
         struct state before = now;
+        uint8_t event = run->events.at[place];
         uint64_t value = 0;
-        uint32_t refusal = galhoveia_step(book->program.at, book->program.length, now.memory, sizeof now.memory,
-                                          now.record, sizeof now.record, events[place], &value);
+        uint32_t refusal = step_once(run->book, &now, event, &value);
 
         if (refusal != GALHOVEIA_DONE) {
             say_refusal("a single step", refusal, value);
@@ -124,22 +105,21 @@ static bool step_through(struct watch *watch, const struct book *book, struct st
             struct watched *watched = &watch->cells[at];
 
             if (before.memory[watched->cell] != now.memory[watched->cell])
-                faultless = show_change(watched, book, place, events[place], &before, &now) && faultless;
+                faultless = show_change(watched, run->book, place, event, &before, &now) && faultless;
         }
     }
-    if (memcmp(&now, end, sizeof now) != 0)
+    if (memcmp(&now, &run->end, sizeof now) != 0)
         return say_fault("single steps and the run come to different states");
     return faultless;
 }
 
-bool show_changes(struct watch *watch, const struct book *book, const struct state *start, const uint8_t *events,
-                  uint64_t done, const struct state *end)
+bool show_changes(struct watch *watch, const struct run *run)
 {
     bool faultless;
 
     printf("changes, with events counted from 0:\n");
-    faultless = step_through(watch, book, *start, events, done, end);
+    faultless = step_through(watch, run);
     for (size_t at = 0; at < watch->count; at++)
-        show_writers_seen(&watch->cells[at], book);
-    return faultless || say_fault("this must never be; please keep book, state and script, and report it");
+        show_writers_seen(&watch->cells[at], run->book);
+    return faultless || ask_report();
 }

@@ -3,7 +3,7 @@
 #ifndef DESK_WATCH_H
 #define DESK_WATCH_H
 
-#include "panel.h"
+#include "run.h"
 
 struct watched {
     uint32_t cell;
@@ -27,7 +27,6 @@ bool watch_cell(struct watch *watch, const struct book *book, uint32_t cell, con
 /* Lets the events that a run has done happen again, one by one, from the state in which it began, and shows each change
    of a watched cell, and which of its writers made none. Answers false for a fault, which is said: a change by no
    instruction, or by one that the list of writers does not have, or another end than the run's. */
-bool show_changes(struct watch *watch, const struct book *book, const struct state *start, const uint8_t *events,
-                  uint64_t done, const struct state *end);
+bool show_changes(struct watch *watch, const struct run *run);
 
 #endif

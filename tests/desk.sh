@@ -1,8 +1,9 @@
 #!/bin/sh
-# Tests of the desk command: desk.sh PATH-OF-DESK PATH-OF-FORGETFUL-DESK (forgetful.c), from the repository's folder.
-# Works in a folder of its own.
+# Tests of the desk command: desk.sh PATH-OF-DESK PATH-OF-FORGETFUL-DESK (forgetful.c) PATH-OF-DEAF-DESK (deaf.c), from
+# the repository's folder. Works in a folder of its own.
 desk=$(realpath "$1") || exit 2
 forgetful=$(realpath "$2") || exit 2
+deaf=$(realpath "$3") || exit 2
 examples=$(realpath examples) || exit 2
 inspector=$(realpath docs/INSPECTOR.md) || exit 2
 work=$(mktemp -d) || exit 2
@@ -78,6 +79,9 @@ for command in demo fresh run level picture writers 'book check' 'book make'; do
 done
 ends 0 run --help
 says out 'EVENT*N'
+says out '(EVENTS)*N'
+says out 'sound '
+says out '--wav FILE [--rate HZ]'
 ends 0 book make --help
 says out 'EQU'
 says out '$300.2'
@@ -116,9 +120,12 @@ ends 0 demo "$examples"
 quiet
 says out 'level -1  (digits 0,1; ground code 2)'
 says out 'level 6  (digits 1,0; ground code 2)'
-says out '$01E  3C20  STA $020'
+says out '$027  3C20  STA $020'
 says out "stopped at the script's end"
-says out '  event 233: $020 0 -> 1  by  $01E  3C20  STA $020'
+says out 'heard no stroke'
+says out 'heard 2 strokes: down'
+says out 'heard 1 stroke: up'
+says out '  event 23057: $020 0 -> 1  by  $027  3C20  STA $020'
 says out 'cell $021 (low digit of the level): 3 changes; of 4 instructions that can change it 2 did, and these never:'
 ends 2 demo nowhere
 says err 'cannot read nowhere/dispatcher.script'
@@ -126,7 +133,7 @@ says err 'cannot read nowhere/dispatcher.script'
 
 echo "desk: fresh"
 ends 0 fresh one.state
-size_is one.state 1061
+size_is one.state 1067
 quiet
 cp one.state kept
 ends 2 fresh one.state --options 3
@@ -159,18 +166,19 @@ same one.state link
 absent nothing
 no_parts
 ends 0 fresh -- --odd-name
-size_is ./--odd-name 1061
+size_is ./--odd-name 1067
 (umask 027 && "$desk" fresh masked.state >/dev/null)
 case $(ls -l masked.state) in -rw-r-----*) ok ;; *) wrong "a file's mode does not follow the umask" ;; esac
 
 echo "desk: run"
 ends 0 run "$book" "$script"
-says out "348 of 348 events done; stopped at the script's end"
+says out "29608 of 29608 events done; stopped at the script's end"
 says out 'asleep in HALT'
+says out 'sound channel 1: output 1, count 12; channel 2: output 0, count 0'
 quiet
 ends 0 run "$book" "$script" --save end.state
 says out 'state saved in end.state'
-size_is end.state 1061
+size_is end.state 1067
 cp end.state kept
 ends 2 run "$book" "$script" --save end.state --stop 010
 says err 'end.state exists'
@@ -180,7 +188,7 @@ ends 2 run "$book" "$script" --save nowhere/end.state
 says err 'cannot write nowhere/end.state'
 unbegun
 ends 0 run "$book" "$script" --stop 010 --save ready.state
-says out '52 of 348 events done; stopped at $010'
+says out '281 of 29608 events done; stopped at $010'
 ends 0 run "$book" "$script" --stop '$10'
 says out 'stopped at $010'
 ends 0 run "$book" "$script" --stop 0x1000
@@ -198,12 +206,12 @@ ends 2 run "$book" below.script --state ready.state --options 1
 ends 1 run "$book" below.script --options 9
 says err 'refused by 12, value 9'
 # A text and its bytes are one script.
-printf 'cycle*3 base watchdog\na=F b=0 $4A reset cycle' >mixed.script
-printf '\000\000\000\001\002\037\040\112\003\000' >mixed.bytes
+printf 'cycle*3 base watchdog\na=F b=0 $4A reset sound*2 cycle $05' >mixed.script
+printf '\000\000\000\001\002\037\040\112\003\005\005\000\005' >mixed.bytes
 ends 0 run "$book" mixed.script --save text.state
-says out '10 of 10 events done'
+says out '13 of 13 events done'
 ends 0 run "$book" mixed.bytes --raw-script --save bytes.state
-says out '10 of 10 events done'
+says out '13 of 13 events done'
 same text.state bytes.state
 : >empty.script
 ends 0 run "$book" empty.script --save empty.state
@@ -222,6 +230,9 @@ says err 'more than 1073741824 events'
 printf 'cycle\000cycle' >nul.script
 ends 2 run "$book" nul.script
 says err 'nul.script is no text'
+printf 'cycle $04 cycle' >unknown.script
+ends 1 run "$book" unknown.script
+says err 'refused by 5, value 1'
 printf 'cycle $50 cycle' >unknown.script
 ends 1 run "$book" unknown.script --save never.state
 says err 'refused by 5, value 1'
@@ -234,12 +245,22 @@ ends 2 run "$book" folder
 says err 'cannot read folder'
 ends 2 run "$book" "$script" --state nowhere.state
 says err 'cannot read nowhere.state'
-head -c 1060 end.state >short.state
+head -c 1066 end.state >short.state
 ends 2 run "$book" "$script" --state short.state
-says err 'short.state is no state: it has 1060 bytes, and a state has 1061'
+says err 'short.state is no state: it has 1066 bytes, and a state has 1067'
 { cat end.state; printf x; } >long.state
 ends 2 run "$book" "$script" --state long.state
-says err 'it has 1062 bytes'
+says err 'it has 1068 bytes'
+# A state that was written before there was sound.
+head -c 1061 end.state >old.state
+ends 2 run "$book" "$script" --state old.state --save never.state
+says err 'old.state is a state of a version before sound'
+says err 'make it anew by desk fresh'
+absent never.state
+ends 2 level "$book" old.state
+says err 'a version before sound'
+ends 2 picture "$book" old.state
+says err 'a version before sound'
 
 echo "desk: refused states"
 { printf '\020'; tail -c +2 end.state; } >cell.state
@@ -251,7 +272,7 @@ ends 1 level "$book" cell.state
 says err 'cell.state: refused by 3'
 ends 1 picture "$book" cell.state
 says err 'refused by 3'
-{ head -c 1024 end.state; printf '\020'; tail -c 36 end.state; } >record.state
+{ head -c 1024 end.state; printf '\020'; tail -c 42 end.state; } >record.state
 ends 1 run "$book" "$script" --state record.state
 says err 'refused by 4, value 0'
 ends 1 picture "$book" record.state
@@ -268,7 +289,7 @@ ends 1 run stop.book nine.script --save unlisted.state
 says err 'refused by 6, value 2'
 says err '$002'
 says out '2 of 9 events done'
-size_is unlisted.state 1061
+size_is unlisted.state 1067
 ends 1 level stop.book unlisted.state
 says err 'refused by 9, value 0'
 says err 'high digit'
@@ -311,7 +332,7 @@ ends 2 picture nowhere.book end.state
 echo "desk: writers"
 ends 0 writers "$book" 020
 says out 'cell $020: 4 instructions can change it'
-says out '$040  3C0F  STA $00F'
+says out '$04A  3C0F  STA $00F'
 quiet
 ends 0 writers "$book" --level
 says out 'cell $020 (high digit of the level): 4'
@@ -341,20 +362,21 @@ says out '  $012  3C0F  STA $00F'
 echo "desk: watched cells"
 # Which instructions moved the level: neither STA $00F did, since the pointer stands at the display.
 cat >wanted <<'END'
-348 of 348 events done; stopped at the script's end
+29608 of 29608 events done; stopped at the script's end
 PC $011, AC 8, CY 1, asleep in HALT
+sound channel 1: output 1, count 12; channel 2: output 0, count 0
 changes, with events counted from 0:
-  event 5: $021 0 -> 2  by  $016  7921  LDI $021, 2
-  event 113: $021 2 -> 1  by  $022  3C21  STA $021
-  event 233: $020 0 -> 1  by  $01E  3C20  STA $020
-  event 237: $021 1 -> 0  by  $022  3C21  STA $021
+  event 25: $021 0 -> 2  by  $016  7921  LDI $021, 2
+  event 573: $021 2 -> 1  by  $02B  3C21  STA $021
+  event 23057: $020 0 -> 1  by  $027  3C20  STA $020
+  event 23077: $021 1 -> 0  by  $02B  3C21  STA $021
 cell $020 (high digit of the level): 1 change; of 4 instructions that can change it 1 did, and these never:
   $015  7820  LDI $020, 0
-  $040  3C0F  STA $00F  ; wherever the pointer $012, $011, $010 stands
-  $043  3C0F  STA $00F  ; wherever the pointer $012, $011, $010 stands
+  $04A  3C0F  STA $00F  ; wherever the pointer $012, $011, $010 stands
+  $04D  3C0F  STA $00F  ; wherever the pointer $012, $011, $010 stands
 cell $021 (low digit of the level): 3 changes; of 4 instructions that can change it 2 did, and these never:
-  $040  3C0F  STA $00F  ; wherever the pointer $012, $011, $010 stands
-  $043  3C0F  STA $00F  ; wherever the pointer $012, $011, $010 stands
+  $04A  3C0F  STA $00F  ; wherever the pointer $012, $011, $010 stands
+  $04D  3C0F  STA $00F  ; wherever the pointer $012, $011, $010 stands
 END
 ends 0 run "$book" "$script" --watch-level
 same out wanted
@@ -372,22 +394,22 @@ same out wanted
 ends 0 run "$book" "$script" --save watched.state --show --digits 2
 cp out plain.out
 ends 0 run "$book" "$script" --save watched.state --force --show --digits 2 --watch '$304' --watch-level
-says out '  event 152: $304 0 -> 1  by  $03A  3F04  STA $304'
+says out '  event 768: $304 0 -> 1  by  $044  3F04  STA $304'
 says out 'cell $304: 2 changes; of 3 instructions that can change it 1 did, and these never:'
 grep -v -e '^changes, ' -e '^  event ' -e '^cell \$' -e '^  \$' out >rest.out
 same rest.out plain.out
 same watched.state end.state
 ends 0 run "$book" "$script" --watch 300
-says out '  by  $040  3C0F  STA $00F  ; wherever the pointer $012, $011, $010 stands'
+says out '  by  $04A  3C0F  STA $00F  ; wherever the pointer $012, $011, $010 stands'
 ends 0 run "$book" "$script" --watch 0x16F
 says out 'cell $16F: 0 changes; of 2 instructions that can change it 0 did, and these never:'
 ends 0 run "$book" "$script" --watch 021 --stop 010
-says out '52 of 348 events done; stopped at $010'
+says out '281 of 29608 events done; stopped at $010'
 says out 'cell $021: 1 change; of 4'
 ends 0 run "$book" below.script --state ready.state --watch-level
 says out '109 of 109 events done'
 ends 0 run "$book" mixed.bytes --raw-script --watch 021
-says out '10 of 10 events done'
+says out '13 of 13 events done'
 ends 0 run "$book" empty.script --watch 021
 says out 'cell $021: 0 changes'
 ends 0 run stop.book empty.script --watch 36D
@@ -415,13 +437,307 @@ absent never.state
 proved=$desk
 desk=$forgetful
 ends 3 run "$book" "$script" --watch-level
-says out '348 of 348 events done'
-says out '  event 5: $021 0 -> 2  by  $016  7921  LDI $021, 2'
-says err 'desk: FAULT: event 5 changed cell $021 at $016, which its list of writers does not have'
+says out '29608 of 29608 events done'
+says out '  event 25: $021 0 -> 2  by  $016  7921  LDI $021, 2'
+says err 'desk: FAULT: event 25 changed cell $021 at $016, which its list of writers does not have'
 says err 'report it'
 ends 3 demo "$examples"
-says err 'desk: FAULT: event 5 changed cell $021 at $016, which its list of writers does not have'
+says err 'desk: FAULT: event 25 changed cell $021 at $016, which its list of writers does not have'
 ends 0 run "$book" "$script" --watch 020
+quiet
+desk=$proved
+
+echo "desk: groups in scripts"
+# comes_to TEXT TEXT: two scripts that come to the same, on a chip that sounds, so that neither a cycle nor a sound
+# clock is lost unseen.
+comes_to() {
+    printf '%s' "$1" >group.script
+    printf '%s' "$2" >flat.script
+    ends 0 run "$book" group.script --state sounding.state --save group.state --force
+    cp out group.out
+    ends 0 run "$book" flat.script --state sounding.state --save flat.state --force
+    sed 's/group.state/flat.state/' group.out >got
+    same got out
+    same group.state flat.state
+}
+cat >sounding.asm <<'END'
+        LDI $020, 15
+        STA $371
+        LDI $020, 7
+        STA $372
+        LDI $020, 1
+        STA $377
+END
+ends 0 book make sounding.book sounding.asm small.wiring small.level
+printf 'cycle*6' >sounding.script
+ends 0 run sounding.book sounding.script --save sounding.state
+comes_to '(cycle sound*4)*3' 'cycle sound*4 cycle sound*4 cycle sound*4'
+comes_to '(cycle sound)*2' 'cycle sound cycle sound'
+comes_to '(a=1 cycle*2 a=0)*3 base' 'a=1 cycle cycle a=0 a=1 cycle cycle a=0 a=1 cycle cycle a=0 base'
+comes_to '(cycle)' 'cycle'
+comes_to '((a=1 sound)*2 (a=2 cycle)*3)*2 d=4' 'a=1 sound a=1 sound a=2 cycle a=2 cycle a=2 cycle a=1 sound a=1 sound a=2 cycle a=2 cycle a=2 cycle d=4'
+comes_to 'a=3( cycle )*2(a=5)*1 b=2' 'a=3 cycle cycle a=5 b=2'
+comes_to 'a=3 (cycle*5 reset)*0 b=2' 'a=3 b=2'
+comes_to 'a=3 ()*5 b=2' 'a=3 b=2'
+comes_to '(cycle # a comment ) *
+)*2' 'cycle*2'
+comes_to '((((((((((((((((cycle)*2)))))))))))))))' 'cycle*2'
+printf '((((((((((cycle)*10)*10)*10)*10)*10)*10 sound)*2))*2)' >deep.script
+ends 0 run "$book" deep.script
+says out '4000004 of 4000004 events done'
+# bad_group LINE WORDS TEXT: the text is refused with the line and the words.
+bad_group() {
+    printf '%s' "$3" >bad.script
+    ends 2 run "$book" bad.script --save never.state
+    says err "bad.script:$1: $2"
+    absent never.state
+}
+newline='
+'
+bad_group 2 'the group that begins here has no ) at its end' "cycle$newline(cycle sound${newline}cycle$newline"
+bad_group 1 'the group that begins here has no ) at its end' "(cycle (sound)*2$newline"
+bad_group 2 ') closes a group that no ( opens' "cycle$newline)"
+bad_group 2 ')*3 closes a group that no ( opens' "(cycle)*2$newline )*3"
+bad_group 1 ')*: how many times?' '(cycle)*'
+bad_group 1 ')*x: how many times?' '(cycle)*x'
+bad_group 1 ')x: how many times?' '(cycle)x'
+bad_group 1 ')*2x: how many times?' '(cycle)*2x'
+bad_group 1 '*2 is no event' '(cycle) *2'
+bad_group 2 'bang is no event' "(cycle$newline bang)*2"
+bad_group 1 'more than 16 groups stand in each other' '(((((((((((((((((cycle)))))))))))))))))'
+bad_group 3 'the script has more than 1073741824 events' "($newline(cycle*1000)*1000$newline)*2000"
+bad_group 1 'the script has more than 1073741824 events' '(cycle*1000000)*2000'
+bad_group 1 'the script has more than 1073741824 events' 'sound (cycle)*1073741824'
+bad_group 1 ')*1073741825: how many times?' '(cycle)*1073741825'
+
+echo "desk: sound"
+# Little numbers of a WAV file as the decimal bytes that od shows.
+bytes_of() {
+    awk -v number="$1" -v bytes="$2" 'BEGIN { for (; bytes > 0; bytes--) { printf " %d", number % 256; number = int(number / 256) } }'
+}
+
+# header_is FILE CLOCKS RATE: the file is as long as it must be and begins as a WAV file of 16-bit stereo does.
+header_is() {
+    size_is "$1" $((44 + 4 * $2))
+    {
+        printf ' 82 73 70 70' # RIFF
+        bytes_of $((36 + 4 * $2)) 4
+        printf ' 87 65 86 69' # WAVE
+        printf ' 102 109 116 32' # fmt
+        bytes_of 16 4
+        bytes_of 1 2
+        bytes_of 2 2
+        bytes_of "$3" 4
+        bytes_of $((4 * $3)) 4
+        bytes_of 4 2
+        bytes_of 16 2
+        printf ' 100 97 116 97' # data
+        bytes_of $((4 * $2)) 4
+        printf '\n'
+    } >wanted
+    od -An -v -t u1 -N 44 "$1" | awk '{ for (i = 1; i <= NF; i++) printf " %d", $i } END { printf "\n" }' >got
+    same got wanted
+}
+
+# The samples of a WAV file, a frame in each line: left, right.
+frames() {
+    od -An -v -t d2 -w4 -j 44 "$1"
+}
+
+# strokes_of COLUMN FILE: how often the left (1) or right (2) channel begins to move after more than 2,032 frames at
+# rest, 2,032 being the longest period that a tone can have.
+strokes_of() {
+    frames "$2" | awk -v column="$1" '
+        BEGIN { before = 0; rest = 3000 }
+        { if ($column != before) { if (rest > 2032) strokes++; rest = 0 } else rest++; before = $column }
+        END { print strokes + 0 }'
+}
+
+# hears COLUMN STROKES FILE
+hears() {
+    heard=$(strokes_of "$1" "$3")
+    if [ "$heard" = "$2" ]; then ok; else wrong "$said: $heard strokes in column $1 of $3, not $2"; fi
+}
+
+ends 0 run "$book" "$script" --wav both.wav
+says out 'both.wav: 23680 sound clocks, 0.723 s at 32768 Hz; turns of the output: channel 1 527, channel 2 0'
+quiet
+header_is both.wav 23680 32768
+hears 1 3 both.wav
+hears 2 0 both.wav
+frames both.wav | awk '$1 != 0 && $1 != 8192 || $2 != 0 { bad++ } END { exit bad > 0 }' && ok || wrong "both.wav: other samples"
+# E5 by N 25: inside a stroke the left channel turns every 25 frames.
+frames both.wav | awk '
+    BEGIN { before = 0; last = 0 }
+    $1 != before { if (last && NR - last < 2000 && NR - last != 25) bad++; last = NR; before = $1 }
+    END { exit bad > 0 || last == 0 }' && ok || wrong "both.wav: a tone of another period"
+# Beside it the output and the state are those of any run.
+ends 0 run "$book" "$script" --wav both.wav --force --save heard.state --watch-level --show --digits 2
+same heard.state end.state
+says out 'level 6'
+says out 'state saved in heard.state'
+# Up is one stroke, down two, no way none; after each other and from a saved state.
+ends 0 run "$book" "$script" --stop 010 --save ready.state --force
+quiet
+call() {
+    printf 'b=%s c=%s a=1 (cycle sound*4)*3500 a=0 (cycle sound*4)*600\n' "$1" "$2"
+}
+call 0 3 >up.script
+ends 0 run "$book" up.script --state ready.state --wav up.wav --save up.state
+hears 1 1 up.wav
+header_is up.wav 16400 32768
+call 0 2 >same.script
+ends 0 run "$book" same.script --state ready.state --wav same.wav
+hears 1 0 same.wav
+header_is same.wav 16400 32768
+call 0 0 >down.script
+ends 0 run "$book" down.script --state up.state --wav down.wav
+hears 1 2 down.wav
+{ call 1 0; call 0 7; call 7 7; call 7 7; call 6 0; } >five.script
+ends 0 run "$book" five.script --state ready.state --wav five.wav
+hears 1 6 five.wav
+# Channel 2, by N 3: in HALT it goes on, in STOP it rests; the octave bit makes it 24.
+cat >halt.asm <<'END'
+        LDI $020, 0
+        STA $375
+        LDI $020, 7
+        STA $376
+        LDI $020, 2
+        STA $377
+        HALT
+END
+sed 's/HALT/STOP/' halt.asm >rest.asm
+sed 's/, 7/, 15/' halt.asm >octave.asm
+for tone in halt rest octave; do
+    ends 0 book make $tone.book $tone.asm small.wiring small.level
+done
+printf 'cycle*7 sound*9' >tone.script
+ends 0 run halt.book tone.script --wav tone.wav
+says out 'asleep in HALT'
+says out 'sound channel 1: output 0, count 0; channel 2: output 1, count 0'
+says out 'tone.wav: 9 sound clocks, 0.000 s at 32768 Hz; turns of the output: channel 1 0, channel 2 3'
+header_is tone.wav 9 32768
+frames tone.wav | awk '{ printf "%d,%d ", $1, $2 }' >got
+printf '0,0 0,0 0,8192 0,8192 0,8192 0,0 0,0 0,0 0,8192 ' >wanted
+same got wanted
+ends 0 run rest.book tone.script --wav rest.wav
+says out 'asleep in STOP'
+says out 'rest.wav: 9 sound clocks, 0.000 s at 32768 Hz; turns of the output: channel 1 0, channel 2 0'
+header_is rest.wav 9 32768
+printf 'cycle*7 sound*100' >octave.script
+ends 0 run octave.book octave.script --wav octave.wav
+frames octave.wav | awk 'BEGIN { before = 0 } $2 != before { printf "%d ", NR; before = $2 }' >got
+printf '24 48 72 96 ' >wanted
+same got wanted
+# The same events at the other clock: other seconds, the same samples.
+ends 0 run halt.book tone.script --wav fast.wav --rate 112500
+says out '9 sound clocks, 0.000 s at 112500 Hz'
+header_is fast.wav 9 112500
+frames tone.wav >slow.frames
+frames fast.wav >fast.frames
+same slow.frames fast.frames
+ends 0 run halt.book tone.script --wav slow.wav --rate 32768
+same slow.wav tone.wav
+# Only clocks that were done are heard, also before a word that is no instruction.
+printf 'sound*2 cycle*2 sound*3 cycle sound*7' >cut.script
+ends 1 run stop.book cut.script --wav cut.wav
+says err 'refused by 6, value 2'
+says out 'cut.wav: 5 sound clocks'
+header_is cut.wav 5 32768
+ends 0 run "$book" "$script" --stop 010 --wav ready.wav
+says out 'ready.wav: 224 sound clocks'
+header_is ready.wav 224 32768
+# Nothing to hear.
+printf 'cycle*9 a=1' >silent.script
+ends 0 run "$book" silent.script --wav silent.wav
+says out 'silent.wav: no sound clock was done'
+header_is silent.wav 0 32768
+ends 0 run "$book" empty.script --wav empty.wav
+says out 'empty.wav: no sound clock was done'
+header_is empty.wav 0 32768
+printf 'sound*5' >only.script
+ends 0 run "$book" only.script --wav only.wav
+says out 'turns of the output: channel 1 0, channel 2 0'
+header_is only.wav 5 32768
+# What is in the way, or wrong.
+cp both.wav kept
+ends 2 run "$book" "$script" --wav both.wav --save never.state
+says err 'both.wav exists and is left as it is'
+same both.wav kept
+ends 0 run "$book" only.script --wav both.wav --force
+same both.wav only.wav
+ends 2 run "$book" "$script" --wav nowhere/a.wav
+says err 'cannot write nowhere/a.wav'
+unbegun
+ends 2 run "$book" "$script" --wav kept/a.wav
+says err 'cannot write kept/a.wav: Not a directory'
+unbegun
+ends 2 run "$book" "$script" --wav folder --force
+says err 'cannot write folder'
+ends 2 run "$book" "$script" --wav pipe --force
+says err 'cannot write pipe: it is no ordinary file'
+unbegun
+ends 2 run "$book" "$script" --wav
+says err 'a value is due after --wav'
+for rate in 0 8000 44100 16384 32767 112501 262000 99999999999 x; do
+    ends 2 run "$book" "$script" --wav never.wav --rate $rate
+    absent never.wav
+done
+says err 'usage: desk run'
+ends 2 run "$book" "$script" --wav never.wav --rate 44100
+says err 'the rate of a sound clock is 32768 or 112500, not 44100'
+ends 2 run "$book" "$script" --rate 32768
+says err '--rate is for the file of --wav'
+ends 2 run "$book" "$script" --wav never.wav --save never.wav
+says err 'two files'
+# One file under two names: found at once where it is there, else before the state would take the sound's place.
+cp both.wav kept
+ends 2 run "$book" "$script" --wav both.wav --save ./both.wav --force
+says err 'two files'
+same both.wav kept
+ends 2 run "$book" only.script --wav twice.wav --save ./twice.wav --force
+says err 'the state is not saved: ./twice.wav is the file of the sound, twice.wav'
+header_is twice.wav 5 32768
+ends 1 run "$book" unknown.script --wav never.wav
+says err 'refused by 5, value 1'
+ends 1 run "$book" "$script" --state cell.state --wav never.wav
+says err 'refused by 3, value 0'
+absent never.wav
+absent never.state
+no_parts
+# Records with a count or an output out of its rule: bytes 37 to 42 of the record, the state's last six.
+for tail in '\004\000\000\000\000\000' '\003\370\000\000\000\000' '\000\000\002\000\000\000' '\000\000\000\003\370\000' \
+    '\000\000\000\000\000\002'; do
+    # shellcheck disable=SC2059
+    { head -c 1061 end.state; printf "$tail"; } >sound.state
+    ends 1 run "$book" only.script --state sound.state
+    says err 'refused by 4, value 0'
+done
+{ head -c 1061 end.state; printf '\003\367\001\003\367\001'; } >sound.state
+ends 0 run "$book" empty.script --state sound.state
+says out 'sound channel 1: output 1, count 1015; channel 2: output 1, count 1015'
+# A million sound clocks, four to a cycle.
+printf '(cycle sound*4)*250000' >million.script
+ends 0 run "$book" million.script --wav million.wav
+says out 'million.wav: 1000000 sound clocks, 30.518 s at 32768 Hz'
+header_is million.wav 1000000 32768
+rm million.wav
+# A step that loses sound clocks is found out.
+proved=$desk
+desk=$deaf
+ends 3 run "$book" "$script" --wav never.wav
+says out '29608 of 29608 events done'
+says err 'desk: FAULT: sound clock by sound clock the run comes to another end'
+says err 'report it'
+absent never.wav
+ends 3 run "$book" "$script" --options 1 --wav never.wav
+says err 'the run, sound clock by sound clock: refused by 4, value 0'
+says err 'desk: FAULT: sound clock by sound clock the run comes to another end'
+says err 'report it'
+absent never.wav
+ends 3 demo "$examples"
+says err 'desk: FAULT: sound clock by sound clock the run comes to another end'
+ends 0 run "$book" silent.script --wav silent.wav --force
 quiet
 desk=$proved
 

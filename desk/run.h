@@ -1,0 +1,23 @@
+/* A script's events on a book's chip. */
+#ifndef DESK_RUN_H
+#define DESK_RUN_H
+
+#include "panel.h"
+
+/* A run, with the states before and after the events that were done. */
+struct run {
+    const struct book *book;
+    struct bytes events;
+    uint64_t done;
+    uint32_t reason;
+    struct state start, end;
+};
+
+/* Lets the run's events happen to the chip, from its start, and says how that ended. Answers 0 or the refusal, which is
+   said; a run before an unlisted word is refused, but what it did counts. */
+uint32_t run_events(struct run *run, uint32_t stop);
+
+/* Lets one event happen. Answers 0 or the refusal, which is not said. */
+uint32_t step_once(const struct book *book, struct state *state, uint8_t event, uint64_t *value);
+
+#endif
