@@ -1,6 +1,7 @@
 /* Measures galhoveia beside the second emulator and, where one is given, beside an earlier galhoveia: the same inputs,
-   in one run, turn by turn, the best of several turns each. A ratio of 1 means as fast as the second emulator, 0.25 a
-   quarter of its speed; the last column is the speed now over the speed before. */
+   in one run, turn by turn. Speeds are those of the best turn. Ratios are taken turn by turn, of times that lie next to
+   each other, and the median is told, since the machine's own speed changes from turn to turn: a ratio of 1 means as
+   fast as the second emulator, 0.25 a quarter of its speed; the last column is the speed now over the speed before. */
 #include "loads.h"
 #include "sides.h"
 #include "timing.h"
@@ -10,7 +11,7 @@
 #include <string.h>
 
 enum {
-    TURNS = 9, RUN_EVENTS = 2000000, STEPS = 40000, LISTED_CELLS = 40, LISTS = 40, SECOND_LISTS = 1, LEVELS = 40000,
+    TURNS = 15, RUN_EVENTS = 2000000, STEPS = 40000, LISTED_CELLS = 40, LISTS = 40, SECOND_LISTS = 1, LEVELS = 40000,
     PICTURES = 40000, OFTEN = 10, SELDOM = 100, LONGEST = 10000000, TIMED_AT_LEAST = 1000000
 };
 
@@ -59,19 +60,45 @@ static void heading(void)
     printf("\n");
 }
 
-static void line(const char *what, const double best[SIDES_MOST])
+/* What each side took in each turn; 0 where it took no part. */
+struct times {
+    double of[SIDES_MOST][TURNS];
+};
+
+static int by_size(const void *left, const void *right)
 {
-    printf("%-42s %14.0f %14.0f %8.2f", what, 1 / best[GALHOVEIA], 1 / best[SECOND], best[SECOND] / best[GALHOVEIA]);
-    if (best[BEFORE] != 0)
-        printf(" %14.0f %10.2f", 1 / best[BEFORE], best[BEFORE] / best[GALHOVEIA]);
-    printf("\n");
-    fflush(stdout);
+    double a = *(const double *)left, b = *(const double *)right;
+
+    return (a > b) - (a < b);
 }
 
-static void least(double *best, double time)
+static double speed(const struct times *times, int at)
 {
-    if (*best == 0 || time < *best)
-        *best = time;
+    double sorted[TURNS];
+
+    memcpy(sorted, times->of[at], sizeof sorted);
+    qsort(sorted, TURNS, sizeof sorted[0], by_size);
+    return 1 / sorted[0];
+}
+
+/* How many times as fast as that side. */
+static double beside(const struct times *times, int at)
+{
+    double ratios[TURNS];
+
+    for (int turn = 0; turn < TURNS; turn++)
+        ratios[turn] = times->of[at][turn] / times->of[GALHOVEIA][turn];
+    qsort(ratios, TURNS, sizeof ratios[0], by_size);
+    return ratios[TURNS / 2];
+}
+
+static void line(const char *what, const struct times *times)
+{
+    printf("%-42s %14.0f %14.0f %8.2f", what, speed(times, GALHOVEIA), speed(times, SECOND), beside(times, SECOND));
+    if (times->of[BEFORE][0] != 0)
+        printf(" %14.0f %10.2f", speed(times, BEFORE), beside(times, BEFORE));
+    printf("\n");
+    fflush(stdout);
 }
 
 /* A load on which two sides differ would measure nothing. */
@@ -91,18 +118,18 @@ static int sides_with(size_t length)
 
 static void measure_run_on(int taking_part, const char *what, struct load load, struct machine start)
 {
-    double best[SIDES_MOST] = {0};
+    struct times times = {0};
 
     for (int turn = 0; turn < TURNS; turn++) {
         struct machine end[SIDES_MOST];
 
         for (int at = 0; at < taking_part; at++) {
             end[at] = start;
-            least(&best[at], time_runs(&side[at], load, RUN_EVENTS, 1, &end[at]));
+            times.of[at][turn] = time_runs(&side[at], load, RUN_EVENTS, 1, &end[at]);
             same(what, &end[GALHOVEIA], &end[at], sizeof end[at]);
         }
     }
-    line(what, best);
+    line(what, &times);
 }
 
 static void measure_run(const char *what, struct load load, struct machine start)
@@ -112,39 +139,39 @@ static void measure_run(const char *what, struct load load, struct machine start
 
 static void measure_steps(const char *what, struct load load)
 {
-    double best[SIDES_MOST] = {0};
+    struct times times = {0};
 
     for (int turn = 0; turn < TURNS; turn++) {
         struct machine end[SIDES_MOST];
 
         for (int at = 0; at < sides; at++) {
             end[at] = awake();
-            least(&best[at], time_steps(&side[at], load, STEPS, &end[at]));
+            times.of[at][turn] = time_steps(&side[at], load, STEPS, &end[at]);
             same(what, &end[GALHOVEIA], &end[at], sizeof end[at]);
         }
     }
-    line(what, best);
+    line(what, &times);
 }
 
 /* The second emulator, which is slow at this, makes fewer lists; that of the first cell is compared. */
 static void measure_lists(const char *what, const uint8_t *program, unsigned cells)
 {
     static uint8_t list[SIDES_MOST][GALHOVEIA_PROGRAM_BYTES];
-    double best[SIDES_MOST] = {0};
+    struct times times = {0};
 
     for (int turn = 0; turn < TURNS; turn++)
         for (int at = 0; at < sides; at++) {
-            least(&best[at], time_lists(&side[at], program, cells, at == SECOND ? SECOND_LISTS : LISTS, list[at]));
+            times.of[at][turn] = time_lists(&side[at], program, cells, at == SECOND ? SECOND_LISTS : LISTS, list[at]);
             (void)time_lists(&side[at], program, 1, 1, list[at]);
             same(what, list[GALHOVEIA], list[at], sizeof list[at]);
         }
-    line(what, best);
+    line(what, &times);
 }
 
 static void measure_levels(const char *what)
 {
     static const uint8_t body[GALHOVEIA_LEVEL_BYTES] = {0x00, 0x20, 0x00, 0x21, 2};
-    double best[SIDES_MOST] = {0};
+    struct times times = {0};
     struct shown shown[SIDES_MOST] = {0};
     struct machine machine = awake();
 
@@ -152,16 +179,16 @@ static void measure_levels(const char *what)
     machine.memory[0x021] = 7;
     for (int turn = 0; turn < TURNS; turn++)
         for (int at = 0; at < sides; at++) {
-            least(&best[at], time_levels(&side[at], &machine, body, LEVELS, &shown[at]));
+            times.of[at][turn] = time_levels(&side[at], &machine, body, LEVELS, &shown[at]);
             same(what, &shown[GALHOVEIA], &shown[at], sizeof shown[at]);
         }
-    line(what, best);
+    line(what, &times);
 }
 
 static void measure_pictures(const char *what)
 {
     uint8_t wiring[GALHOVEIA_ELEMENT_BYTES * GALHOVEIA_ELEMENTS_MOST];
-    double best[SIDES_MOST] = {0};
+    struct times times = {0};
     struct shown shown[SIDES_MOST] = {0};
     struct machine machine = awake();
 
@@ -169,10 +196,10 @@ static void measure_pictures(const char *what)
     full_panel(machine.memory, wiring);
     for (int turn = 0; turn < TURNS; turn++)
         for (int at = 0; at < sides; at++) {
-            least(&best[at], time_pictures(&side[at], &machine, wiring, PICTURES, &shown[at]));
+            times.of[at][turn] = time_pictures(&side[at], &machine, wiring, PICTURES, &shown[at]);
             same(what, &shown[GALHOVEIA], &shown[at], sizeof shown[at]);
         }
-    line(what, best);
+    line(what, &times);
 }
 
 /* ---- How the time grows ---- */
@@ -190,11 +217,15 @@ static void measure_lengths(const char *what, struct load load)
 {
     static const size_t lengths[] = {1000, 10000, 100000, 1000000, LONGEST};
     enum { LENGTHS = sizeof lengths / sizeof lengths[0] };
-    double best[LENGTHS] = {0};
+    double best[LENGTHS];
 
     for (int turn = 0; turn < TURNS; turn++)
-        for (int at = 0; at < LENGTHS; at++)
-            least(&best[at], time_length(load, lengths[at]));
+        for (int at = 0; at < LENGTHS; at++) {
+            double time = time_length(load, lengths[at]);
+
+            if (turn == 0 || time < best[at])
+                best[at] = time;
+        }
     printf("%s\n", what);
     for (int at = 0; at < LENGTHS; at++)
         printf("%42zu %14.1f\n", lengths[at], 1e9 * best[at]);
