@@ -25,7 +25,7 @@ use Rattle.sh_core.proofs.Plain.{never}
 use Rattle.sh_ticks.proofs.Ticks.{timed-none}
 use Rattle.sh_ticks.proofs.Quiet.{Low, quick-low, awake-step, halted-step}
 use Rattle.sh_turn.specs.Turn.{Turn, turn, turnOf}
-use Rattle.sh_turn.proofs.TurnedQuiet.{Same, Leaves, turn-same, turn-left, turn-room, turn-quiet, turn-step}
+use Rattle.sh_turn.proofs.TurnedQuiet.{Same, Leaves, turn-same, turn-left, turn-unmoved, turn-room, turn-quiet, turn-step}
 use Rattle.sh_run.specs.declared.stretch.Pause.{Pause}
 use Rattle.sh_run.specs.declared.stretch.Stretch.{Stretch}
 use Rattle.sh_run.specs.declared.Stop.the-variants as stop
@@ -208,6 +208,9 @@ module _ (w : ℕ) (m : Machine) (c : Core) (l : List ℕ) (n : Machine) (d : Co
   turned-left : Leaves l (d .went) t
   turned-left = subst (λ (v : Turn). Leaves l (v .core .went) (v .memory)) (sym e) (turn-left m c l w)
 
+  turned-unmoved : d .went ≡ false → n ≡ m
+  turned-unmoved = subst (λ (v : Turn). v .core .went ≡ false → v .machine ≡ m) (sym e) (turn-unmoved m c l w)
+
   pub turned-room : (mode : ℕ) → roomOf n mode ≡ roomOf m mode
   turned-room mode = subst (λ (v : Turn). roomOf (v .machine) mode ≡ roomOf m mode) (sym e) (turn-room m c l w mode)
 
@@ -216,8 +219,10 @@ module _ (w : ℕ) (m : Machine) (c : Core) (l : List ℕ) (n : Machine) (d : Co
 
 module _ (p : List ℕ) (target : ℕ) (script : List ℕ) (m : Machine) (mode first i : ℕ) (k : first ≤ i) (lt : i < length script) (z : at script i ≡ 0) (r : i - first < roomOf m mode) where
   module _ (c : Core) (l : List ℕ) (q : Quiet m l mode) (n : Machine) (d : Core) (t : List ℕ) (e : turn n d t ≡ turnOf m c l (at p (c .pc))) where
-    pub stayed-turn : d .went ≡ false → runOf p target (drop i script) (state (coreIn (timedOf m mode (i - first)) c) t) i ≡ runOf p target (drop i script) (state (coreIn (timedOf m mode (i - first)) c) l) i
-    stayed-turn f = ap (λ (v : List ℕ). runOf p target (drop i script) (state (coreIn (timedOf m mode (i - first)) c) v) i) (turned-left (at p (c .pc)) m c l n d t e .whole f)
+    pub stayed-turn : d .went ≡ false → runOf p target (drop i script) (state (coreIn (timedOf n mode (i - first)) c) t) i ≡ runOf p target (drop i script) (state (coreIn (timedOf m mode (i - first)) c) l) i
+    stayed-turn f =
+        ap (λ (k : Machine). runOf p target (drop i script) (state (coreIn (timedOf k mode (i - first)) c) t) i) (turned-unmoved (at p (c .pc)) m c l n d t e f)
+        ∙ ap (λ (v : List ℕ). runOf p target (drop i script) (state (coreIn (timedOf m mode (i - first)) c) v) i) (turned-left (at p (c .pc)) m c l n d t e .whole f)
 
     module _ (g : m .mode ≡ 0) (w : d .went ≡ true) where
       turn-event : happened false (state (coreIn (timedOf n mode (i + 1 - first)) d) t) ≡ eventOf p (state (coreIn (timedOf m mode (i - first)) c) l) (at script i)

@@ -1,7 +1,7 @@
 -- A part of a run: what it leaves is what the run goes on from, or where it stopped at the address.
-use Prim.Native.Nat.{ℕ, _-_, _<_, _≤_}
+use Prim.Native.Nat.{ℕ, _-_, _%_, _<_, _≤_}
 use mathlib.Core.Path.{_≡_}
-use mathlib.Core.Bool.{Bool, false}
+use mathlib.Core.Bool.{Bool, true, false}
 use mathlib.Core.List.{List}
 use lib.Dec.{ltb, eqb}
 use lib.ListN.{length, drop}
@@ -26,6 +26,13 @@ atOf pc target = pick (ltb target 4096) (eqb pc target) false
 -- no read is pending, nothing is due, and Timer0 has room
 unfoldable pub quietOf : Machine → ℕ → ℕ → Bool
 quietOf m due room = pick (eqb (m .pending) 0) (pick (eqb (m .address) 0) (pick (eqb due 0) (ltb 0 room) false) false) false
+
+-- a word that no stretch takes, so that none is looked for: a form with AC that names $004, $005 or $01E
+unfoldable pub apartCell : ℕ → Bool
+apartCell a = pick (eqb a 0x04) true (pick (eqb a 0x05) true (eqb a 0x1E))
+
+unfoldable pub apartOf : ℕ → Bool
+apartOf w = pick (ltb w 0x4000) (apartCell (w % 1024)) false
 
 -- n events are done: stopped at the address, or the rest of the script is to be run
 unfoldable pub onOf : List ℕ → ℕ → List ℕ → Bool → State → ℕ → Ran

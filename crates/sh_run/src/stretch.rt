@@ -9,7 +9,7 @@ ghost use lib.ListN.{length};
 ghost use Rattle.sh_state.specs.State.{state};
 ghost use Rattle.sh_core.specs.Quick.{coreIn};
 ghost use Rattle.sh_ticks.specs.Clock.{Quiet, timedOf, roomOf};
-ghost use Rattle.sh_run.specs.Stretch.{stretched, atOf, quietOf, Onward, Cycles, pausedAt, Going};
+ghost use Rattle.sh_run.specs.Stretch.{stretched, atOf, quietOf, Onward, Cycles, pausedAt, Going, apartCell, apartOf};
 
 // How many events are looked at together; a contract names the number.
 const MANY: usize = 64;
@@ -185,10 +185,10 @@ fn awake(
         let w = lent::fetch(program, d.pc as usize);
         let t = sh_turn::turn(m, d, memory, w);
         let r = t.core;
+        m = t.machine;
         if !r.went {
             return done(m, d, mode, room, first, n, false);
         }
-        m = t.machine;
         c = r;
         i = n + 1;
         if sh_interrupts::due(memory) != 0 {
@@ -338,6 +338,28 @@ fn at_cycle(
     unmoved(start, first)
 }
 
+fn apart_cell(a: u16) -> bool
+    ensures { λ r. ⌜ r ≡ apartCell a ⌝ }
+{
+    if a == 0x04 {
+        return true;
+    }
+    if a == 0x05 {
+        return true;
+    }
+    a == 0x1E
+}
+
+// Whether the word is a form with AC that names $004, $005 or $01E: no stretch takes it.
+fn apart(w: u16) -> bool
+    ensures { λ r. ⌜ r ≡ apartOf w ⌝ }
+{
+    if w < 0x4000 {
+        return apart_cell(w % 1024);
+    }
+    false
+}
+
 // The events from the first on that are quiet cycles.
 pub fn ahead(
     program: &[u16],
@@ -351,6 +373,9 @@ pub fn ahead(
     ensures { λ r. ⌜ Onward (now (program .entry)) target (now (script .entry)) first (state start (now (memory .entry))) (r .reached) (state (r .machine) (now (memory .exit))) (r .events) ⌝ }
 {
     if lent::peek(script, first) != 0 {
+        return unmoved(start, first);
+    }
+    if apart(lent::fetch(program, start.pc as usize)) {
         return unmoved(start, first);
     }
     at_cycle(program, start, memory, script, first, target)

@@ -14,6 +14,7 @@ use Rattle.sh_rules.proofs.Fits.{ratio-positive}
 use Rattle.sh_timers.specs.declared.request.Moved.{Moved}
 use Rattle.sh_timers.specs.Request.{moved}
 use Rattle.sh_timers.specs.Timer0.{reloadOf, countedOf, prescaledBy, prescaledOf, clockedOf}
+use Rattle.sh_timers.specs.Ticked.{timeSetOf}
 use Rattle.sh_core.specs.declared.Core.{Core}
 use Rattle.sh_core.specs.Quick.{coreIn}
 use Rattle.sh_ticks.specs.Clock.{clocksOf, timedOf, roomOf}
@@ -99,6 +100,13 @@ module _ (m : Machine) (mode : ℕ) where
       let q = prescaler-within m mode s h in
       let e : m .counter * ratioOf mode + m .prescaler + 0 ≡ m .counter * ratioOf mode + m .prescaler = omega arith in
       rw (e, digits-div (m .counter) q, digits-mod (m .counter) q))
+
+  -- clocks that the prescaler takes leave the counter
+  pub timed-within : (mode % 8 ≡ 7 → ⊥) → (n : ℕ) → m .prescaler + n < ratioOf mode → timedOf m mode n ≡ timeSetOf m (m .prescaler + n) (m .counter)
+  unfolding timedOf clocksOf timeSetOf
+  timed-within s n h =
+      let e : m .counter * ratioOf mode + m .prescaler + n ≡ m .counter * ratioOf mode + (m .prescaler + n) = omega arith in
+      rw (ne-eqb (mode % 8) 7 s, e, digits-div (m .counter) h, digits-mod (m .counter) h)
 
   one-more : (n : ℕ) → clocksOf m (ratioOf mode) n + 1 ≡ clocksOf m (ratioOf mode) (n + 1)
   unfolding clocksOf

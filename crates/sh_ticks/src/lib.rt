@@ -60,6 +60,10 @@ fn timed(m: Machine, mode: u8, n: u32) -> Machine
         return m;
     }
     let ratio = sh_periods::ratio(mode);
+    let p = m.prescaler as u64 + n as u64;
+    if p < ratio as u64 {
+        return timer0::time_set(m, p as u16, m.counter);
+    }
     let t = clocks(m.counter, m.prescaler, ratio, n);
     timer0::time_set(m, prescaler_at(t, ratio), counter_at(t, ratio))
 }

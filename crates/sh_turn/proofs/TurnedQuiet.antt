@@ -19,7 +19,7 @@ use Rattle.sh_interrupts.specs.Interrupt.{dueOf}
 use Rattle.sh_cycle.specs.Cycle.{happened}
 use Rattle.sh_events.specs.Event.{eventOf}
 use Rattle.sh_core.specs.declared.Core.{Core}
-use Rattle.sh_core.specs.Quick.{Quick, quickly, staysOf, gotOf, putOf}
+use Rattle.sh_core.specs.Quick.{Quick, quickly, staysOf, gotOf, goneOf, putOf}
 use Rattle.sh_core.specs.Quick.{coreIn}
 use Rattle.sh_ticks.specs.Clock.{Quiet, clocksOf, timedOf, roomOf}
 use Rattle.sh_turn.specs.Turn.{Turn, turn, turning, shownOf, readableOf, writableOf, putMaskedOf, putRegisterOf, takesOf, acWordOf, immediateWordOf, cellTurnOf, adjustedOf, decimalOf, otherTurnOf, calledOf, returnedOf, returnedWithOf, aloneOf, turnOf}
@@ -101,6 +101,15 @@ module _ (m : Machine) (c : Core) (l : List ℕ) (w : ℕ) where
       by-choice P (eqb (w / 2048) 24) _ _ (record { whole = λ _. refl; timer = refl })
       (by-choice P (eqb w 0xD400) _ _ (record { whole = λ _. refl; timer = refl })
       (by-choice P (eqb (w / 256) 0xD0) _ _ (record { whole = λ f. never (sym f); timer = getD-set-other l 0x0E 0x02 _ 0 (λ f. omega arith) }) (other-left c l m w)))
+
+  -- a word that did not go left the machine
+  pub turn-unmoved : turnOf m c l w .core .went ≡ false → turnOf m c l w .machine ≡ m
+  unfolding turnOf calledOf goneOf returnedOf returnedWithOf aloneOf
+  turn-unmoved =
+      let P : Turn → Type 0 = λ t. t .core .went ≡ false → t .machine ≡ m in
+      by-choice P (eqb (w / 2048) 24) _ _ (λ f. never (sym f))
+      (by-choice P (eqb w 0xD400) _ _ (λ f. never (sym f))
+      (by-choice P (eqb (w / 256) 0xD0) _ _ (λ f. never (sym f)) (λ _. refl)))
 
   -- Timer0's state goes with the machine
   module _ (u v : ℕ) where

@@ -158,7 +158,7 @@ turn-requires c κs = search needs
 
 done-requires-4 : tie.Need-done-requires-4 Inv-loop μ-loop
 done-requires-4 c κs =
-    let j = c .before in
+    let j = c .before .before in
     let t = j .before .before .before .before in
     let f = t .before .before in
     let z = f .before .before in
@@ -172,11 +172,11 @@ done-requires-4 c κs =
     let v = l .loop .inv in
     let g = y .going .ensures in
     let u = by-turn _ _ _ (t .turn .ensures) (f .fetch .ensures) in
-    (v .5, s .3, upto (v .0) (g .from), upto (g .to) (e .2))
+    (v .5 ∙ sym (turned-room _ _ _ _ _ _ _ u _), s .3, upto (v .0) (g .from), upto (g .to) (e .2))
 
 same-length-4 : tie.Need-same-length-4 Inv-loop μ-loop
 same-length-4 c =
-    let j = c .before .before in
+    let j = c .before .before .before in
     let t = j .before .before .before .before in
     let f = t .before .before in
     let z = f .before .before in
@@ -194,7 +194,7 @@ same-length-4 c =
 
 returns-4 : tie.Need-returns-4 Inv-loop μ-loop
 returns-4 c =
-    let j = c .before .before in
+    let j = c .before .before .before in
     let t = j .before .before .before .before in
     let f = t .before .before in
     let z = f .before .before in
@@ -286,7 +286,7 @@ returns-5 c =
     let v = l .loop .inv in
     let g = y .going .ensures in
     let u = by-turn _ _ _ (t .turn .ensures) (f .fetch .ensures) in
-    onward-at (c .done5 .ensures) (either _ (λ b. turn-on _ _ _ _ _ _ _ (upto (v .0) (g .from)) (below (o .if2 .left) (e .1)) (z .if3 .left) (in-room (upto (v .0) (g .from)) (o .if2 .left) (e .2) (v .5)) _ _ (g .quiet) _ _ _ u (v .4) (not-false _ (c .before .before .before .before .before .before .if4 .left)) (sym (c .before .at .ensures) ∙ b) ∙ (went-on g (p .if1 .left) ∙ v .6)) (λ b. turn-at _ _ _ _ _ _ _ (upto (v .0) (g .from)) (below (o .if2 .left) (e .1)) (z .if3 .left) (in-room (upto (v .0) (g .from)) (o .if2 .left) (e .2) (v .5)) _ _ (g .quiet) _ _ _ u (v .4) (not-false _ (c .before .before .before .before .before .before .if4 .left)) (sym (c .before .at .ensures) ∙ b) ∙ (went-on g (p .if1 .left) ∙ v .6)) (upto-more (v .0) (g .from)) (next-upto (o .if2 .left) (e .1)))
+    onward-at (c .done5 .ensures) (either _ (λ b. turn-on _ _ _ _ _ _ _ (upto (v .0) (g .from)) (below (o .if2 .left) (e .1)) (z .if3 .left) (in-room (upto (v .0) (g .from)) (o .if2 .left) (e .2) (v .5)) _ _ (g .quiet) _ _ _ u (v .4) (not-false _ (c .before .before .before .before .before .if4 .left)) (sym (c .before .at .ensures) ∙ b) ∙ (went-on g (p .if1 .left) ∙ v .6)) (λ b. turn-at _ _ _ _ _ _ _ (upto (v .0) (g .from)) (below (o .if2 .left) (e .1)) (z .if3 .left) (in-room (upto (v .0) (g .from)) (o .if2 .left) (e .2) (v .5)) _ _ (g .quiet) _ _ _ u (v .4) (not-false _ (c .before .before .before .before .before .if4 .left)) (sym (c .before .at .ensures) ∙ b) ∙ (went-on g (p .if1 .left) ∙ v .6)) (upto-more (v .0) (g .from)) (next-upto (o .if2 .left) (e .1)))
 
 at-requires-2 : tie.Need-at-requires-2 Inv-loop μ-loop
 at-requires-2 c κs = search needs
@@ -343,7 +343,7 @@ returns-6 c =
     let v = l .loop .inv in
     let g = y .going .ensures in
     let u = by-turn _ _ _ (t .turn .ensures) (f .fetch .ensures) in
-    onward-at (c .done6 .ensures) (arrived (turn-at _ _ _ _ _ _ _ (upto (v .0) (g .from)) (below (o .if2 .left) (e .1)) (z .if3 .left) (in-room (upto (v .0) (g .from)) (o .if2 .left) (e .2) (v .5)) _ _ (g .quiet) _ _ _ u (v .4) (not-false _ (c .before .before .before .before .before .before .before .if4 .left)) (sym (c .before .before .at2 .ensures) ∙ c .before .if6 .taken) ∙ (went-on g (p .if1 .left) ∙ v .6)) (upto-more (v .0) (g .from)) (next-upto (o .if2 .left) (e .1)))
+    onward-at (c .done6 .ensures) (arrived (turn-at _ _ _ _ _ _ _ (upto (v .0) (g .from)) (below (o .if2 .left) (e .1)) (z .if3 .left) (in-room (upto (v .0) (g .from)) (o .if2 .left) (e .2) (v .5)) _ _ (g .quiet) _ _ _ u (v .4) (not-false _ (c .before .before .before .before .before .before .if4 .left)) (sym (c .before .before .at2 .ensures) ∙ c .before .if6 .taken) ∙ (went-on g (p .if1 .left) ∙ v .6)) (upto-more (v .0) (g .from)) (next-upto (o .if2 .left) (e .1)))
 
 loop-less : tie.Need-loop-less Inv-loop μ-loop
 loop-less c =
@@ -379,7 +379,7 @@ loop-again c =
     let v = l .loop .inv in
     let g = y .going .ensures in
     let u = by-turn _ _ _ (t .turn .ensures) (f .fetch .ensures) in
-    (upto-more (v .0) (g .from), next-upto (o .if2 .left) (le-refl _), omega (arith, v .2, d .before .before .memory .given, j .before .before .before .memory2 .given), turned-quiet _ _ _ _ _ _ _ u _ (g .quiet) (sym (c .before .before .before .due .ensures) ∙ c .before .before .if5 .left), turned-same _ _ _ _ _ _ _ u .mode ∙ v .4, v .5 ∙ sym (turned-room _ _ _ _ _ _ _ u _), turn-on _ _ _ _ _ _ _ (upto (v .0) (g .from)) (below (o .if2 .left) (e .1)) (z .if3 .left) (in-room (upto (v .0) (g .from)) (o .if2 .left) (e .2) (v .5)) _ _ (g .quiet) _ _ _ u (v .4) (not-false _ (c .before .before .before .before .before .before .if4 .left)) (sym (c .before .at2 .ensures) ∙ c .if6 .left) ∙ (went-on g (p .if1 .left) ∙ v .6))
+    (upto-more (v .0) (g .from), next-upto (o .if2 .left) (le-refl _), omega (arith, v .2, d .before .before .memory .given, j .before .before .before .memory2 .given), turned-quiet _ _ _ _ _ _ _ u _ (g .quiet) (sym (c .before .before .before .due .ensures) ∙ c .before .before .if5 .left), turned-same _ _ _ _ _ _ _ u .mode ∙ v .4, v .5 ∙ sym (turned-room _ _ _ _ _ _ _ u _), turn-on _ _ _ _ _ _ _ (upto (v .0) (g .from)) (below (o .if2 .left) (e .1)) (z .if3 .left) (in-room (upto (v .0) (g .from)) (o .if2 .left) (e .2) (v .5)) _ _ (g .quiet) _ _ _ u (v .4) (not-false _ (c .before .before .before .before .before .if4 .left)) (sym (c .before .at2 .ensures) ∙ c .if6 .left) ∙ (went-on g (p .if1 .left) ∙ v .6))
 
 pub awake-spec : {M : Type 1} → statement M
 awake-spec =
