@@ -66,6 +66,10 @@ pub test : (b : Bool) {P : Type 0} → (b ≡ true → P) → (b ≡ false → P
 test true f g = f refl
 test false f g = g refl
 
+-- a test that fails does not hold
+pub never : {P : Type 0} → false ≡ true → P
+never e = let z : _≡_ {A = ℕ} 0 1 = cc in absurd (omega arith)
+
 -- both hold where each does
 pub both-true : (a b : Bool) → both a b ≡ true → (a ≡ true) × (b ≡ true)
 both-true true b e = (refl, e)

@@ -6,7 +6,7 @@ use Prim.Native.Nat.{ℕ, _/_, _%_, _≤_}
 use lib.Dec.{eqb}
 use borrow.Author.Tests.{eqb-true}
 use Rattle.lent.specs.Lent.{at}
-use Rattle.lent.proofs.Laws.{test, by-test, by-eq}
+use Rattle.lent.proofs.Laws.{test, by-test, by-eq, never}
 use Rattle.sh_map.specs.Map.{askableOf}
 use Rattle.sh_state.specs.State.{State, state}
 use Rattle.sh_rules.proofs.Fits.{Fit}
@@ -18,7 +18,7 @@ use Rattle.sh_interrupts.proofs.Leaves.{interrupted-leaves}
 use Rattle.sh_cycle.specs.Cycle.{Happened, wokenOf, interruptCycleOf, awakeCycleOf, asleepCycleOf, cycleDueOf, cycleOf}
 use Rattle.sh_events.specs.Ports.{portAOf, portBOf, portCOf}
 use Rattle.sh_events.specs.Event.{basePulseOf, watchdogPulseOf, pinsOf, otherOf, eventOf}
-use Rattle.writers.proofs.Cell.{never, past-registers}
+use Rattle.writers.proofs.Cell.{past-registers}
 use Rattle.writers.proofs.Step.{requested-stays, finished-stays}
 
 -- with no interrupt due, only a running machine is awake

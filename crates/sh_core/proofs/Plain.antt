@@ -7,16 +7,13 @@ use lib.Bits.{bitAnd, bitOr}
 use lib.ListN.{set}
 use borrow.Author.Tests.{ne-eqb}
 use Rattle.lent.specs.Lent.{at}
-use Rattle.lent.proofs.Laws.{by-lt}
+use Rattle.lent.proofs.Laws.{by-lt, never}
 use Rattle.sh_map.specs.declared.map.Kind.{Kind}
 use Rattle.sh_map.specs.declared.map.Kind.the-variants.{Register, Data, Display, Scan, Sound, Unmapped}
 use Rattle.sh_map.specs.Map.{kindOf, writtenIn, writtenOf, askableIn, askableOf}
 use Rattle.sh_state.specs.State.{State, state}
 use Rattle.sh_cells.specs.Cells.{plainIn, plainOf, valueOf, seenOf}
 use Rattle.sh_writes.specs.Writes.{keptOf, noticedOf, writeOf}
-
-pub never : {P : Type 0} → false ≡ true → P
-never e = let z : _≡_ {A = ℕ} 0 1 = cc in absurd (omega arith)
 
 pub past-registers : (c : ℕ) → askableOf c ≡ true → 0x20 ≤ c
 unfolding askableOf askableIn kindOf

@@ -7,7 +7,7 @@ use native.Mathlib.Omega.{arith}
 use lib.Dec.{ltb, eqb}
 use borrow.Author.Tests.{lt-ltb, le-ltb, eq-eqb, ne-eqb}
 use Rattle.lent.specs.Lent.{pick}
-use Rattle.lent.proofs.Laws.{by-choice, by-test, by-lt}
+use Rattle.lent.proofs.Laws.{by-choice, by-test, by-lt, never}
 use Rattle.word.specs.declared.Operation.{Operation}
 use Rattle.word.specs.declared.Operation.the-variants as Operation
 use Rattle.word.specs.declared.ImmediateOperation.{ImmediateOperation}
@@ -32,7 +32,7 @@ use Rattle.sh_cycle.specs.Cycle.{Happened, happened}
 use Rattle.sh_core.specs.declared.Core.{Core}
 use Rattle.sh_core.specs.Quick.{Quick, quickly, staysOf, gotOf, goneOf, putOf, onlyOf, bothOf, cellOf, storedOf, immediateOnOf, instructionOnOf, wordOnOf, cellWordOf, branchedOf, instructionOf, otherWordOf, quickOf}
 use Rattle.sh_core.specs.Quick.{coreIn}
-use Rattle.sh_core.proofs.Plain.{never, value-plain, seen-plain, write-plain}
+use Rattle.sh_core.proofs.Plain.{value-plain, seen-plain, write-plain}
 
 -- what a decoded word does, before the cycle's (d) and (e)
 unfoldable pub doneOf : State → Decoded → Happened

@@ -5,12 +5,10 @@ use Prim.Native.Nat.{ℕ}
 use native.Mathlib.Omega.{arith}
 use lib.Seq.{getD-set-other}
 use Rattle.lent.specs.Lent.{at}
+use Rattle.lent.proofs.Laws.{never}
 use Rattle.sh_map.specs.Map.{kindOf, askableIn, askableOf}
 use Rattle.sh_state.specs.State.{State}
 use Rattle.sh_interrupts.specs.Interrupt.{interruptedOf}
-
-never : false ≡ true → ⊥
-never e = let z : _≡_ {A = ℕ} 0 1 = cc in omega arith
 
 module _ (c : ℕ) (h : askableOf c ≡ true) where
   -- a cell that can be asked for is none that cannot

@@ -7,7 +7,7 @@ use lib.Dec.{ltb, eqb}
 use lib.Bits.{bitAnd, bitOr}
 use borrow.Author.Tests.{ltb-true, ltb-false, eqb-true, ne-eqb}
 use Rattle.lent.specs.Lent.{at}
-use Rattle.lent.proofs.Laws.{test, at-past}
+use Rattle.lent.proofs.Laws.{test, at-past, never}
 use Rattle.sh_map.specs.declared.map.Kind.{Kind}
 use Rattle.sh_map.specs.declared.map.Kind.the-variants.{Register, Data, Display, Scan, Sound, Unmapped}
 use Rattle.sh_map.specs.Map.{kindOf, askableIn, askableOf}
@@ -18,9 +18,6 @@ use Rattle.sh_reset.specs.declared.reset.Column.{Column}
 use Rattle.sh_reset.specs.declared.reset.Column.the-variants.{Pin, Watchdog}
 use Rattle.sh_reset.specs.Reset.{staysIn, risesOf, setsOf, resetCellOf, resetMemoryOf, resetOf}
 use Rattle.sh_reset.proofs.Kept.{reset-at, reset-size}
-
-never : {P : Type 0} → false ≡ true → P
-never e = let z : _≡_ {A = ℕ} 0 1 = cc in absurd (omega arith)
 
 module _ (c : ℕ) (h : askableOf c ≡ true) where
   -- a cell that can be asked for is none that cannot

@@ -7,10 +7,10 @@ use native.Mathlib.Omega.{arith}
 use lib.ListN.{length, drop}
 use borrow.Author.Tests.{ne-eqb}
 use Rattle.lent.specs.Lent.{pick, at}
+use Rattle.lent.proofs.Laws.{never}
 use Rattle.sh_state.specs.State.{State}
 use Rattle.sh_cycle.specs.Cycle.{Happened, happened, cycleOf}
 use Rattle.sh_events.specs.Event.{otherOf, eventOf}
-use Rattle.sh_core.proofs.Plain.{never}
 use Rattle.sh_run.specs.declared.Stop.the-variants as stop
 use Rattle.sh_run.specs.Run.{ran, reachedOf, runOf}
 use Rattle.sh_run.specs.Stretch.{atOf, onOf, passedOf, Passing}

@@ -9,7 +9,7 @@ use lib.Dec.{ltb, eqb}
 use lib.ListN.{length, drop}
 use borrow.Author.Tests.{ltb-true, ltb-false, eqb-true}
 use Rattle.lent.specs.Lent.{pick, at, joinedOf}
-use Rattle.lent.proofs.Laws.{test, by-test, by-choice}
+use Rattle.lent.proofs.Laws.{test, by-test, by-choice, never}
 use Rattle.lent.proofs.Bits.{joined-above}
 use Rattle.sh_state.specs.declared.machine.Machine.{Machine}
 use Rattle.sh_state.specs.Record.{setPc, setAc, setCy, setPrescaler, setCounter}
@@ -21,7 +21,6 @@ use Rattle.sh_core.specs.declared.Core.{Core}
 use Rattle.sh_core.specs.Quick.{Quick, quickly, core, quickOf}
 use Rattle.sh_core.specs.Quick.{coreIn}
 use Rattle.sh_ticks.specs.Clock.{Quiet, timedOf, roomOf}
-use Rattle.sh_core.proofs.Plain.{never}
 use Rattle.sh_ticks.proofs.Ticks.{timed-none}
 use Rattle.sh_ticks.proofs.Quiet.{Low, quick-low, awake-step, halted-step}
 use Rattle.sh_turn.specs.Turn.{Turn, turn, turnOf}

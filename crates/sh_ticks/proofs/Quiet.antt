@@ -9,7 +9,7 @@ use lib.Bits.{or-zero-r}
 use lib.Seq.{set-getD, getD-set-other}
 use borrow.Author.Tests.{eq-eqb, ne-eqb}
 use Rattle.lent.specs.Lent.{at}
-use Rattle.lent.proofs.Laws.{by-choice, by-test}
+use Rattle.lent.proofs.Laws.{by-choice, by-test, never}
 use Rattle.word.specs.declared.ImmediateOperation.{ImmediateOperation}
 use Rattle.word.specs.declared.ImmediateOperation.the-variants.{Adi, Adim, Sbi, Sbim, Eorim, Orim, Andim}
 use Rattle.word.specs.declared.Instruction.the-variants.{Accumulator, Memory, Lda, Sta, Immediate, Ldi, Branch, Call, Daa, Das, Rtnw, Rtni, Halt, Stop, Jmp, Shr, Tjmp, Nop}
@@ -30,7 +30,7 @@ use Rattle.sh_core.specs.declared.Core.{Core}
 use Rattle.sh_core.specs.Quick.{Quick, quickly, gotOf, putOf, bothOf, storedOf, immediateOnOf, instructionOnOf, wordOnOf, cellWordOf, quickOf}
 use Rattle.sh_core.specs.Quick.{coreIn}
 use Rattle.sh_ticks.specs.Clock.{Quiet, timedOf, roomOf}
-use Rattle.sh_core.proofs.Plain.{never, past-registers}
+use Rattle.sh_core.proofs.Plain.{past-registers}
 use Rattle.sh_core.proofs.Right.{doneOf, quick-right}
 use Rattle.sh_ticks.proofs.Ticks.{timed-more, clocked-core}
 

@@ -7,7 +7,7 @@ use native.Mathlib.Omega.{arith}
 use lib.Dec.{ltb, eqb}
 use lib.Seq.{getD-set-other}
 use Rattle.lent.specs.Lent.{at}
-use Rattle.lent.proofs.Laws.{test, by-choice, by-test}
+use Rattle.lent.proofs.Laws.{test, by-choice, by-test, never}
 use Rattle.word.specs.Word.{decodeOf}
 use Rattle.alu.specs.declared.Sum.{Sum}
 use Rattle.sh_map.specs.Map.{askableOf}
@@ -23,7 +23,7 @@ use Rattle.sh_core.specs.Quick.{Quick, quickly, staysOf, gotOf, goneOf, putOf}
 use Rattle.sh_core.specs.Quick.{coreIn}
 use Rattle.sh_ticks.specs.Clock.{Quiet, clocksOf, timedOf, roomOf}
 use Rattle.sh_turn.specs.Turn.{Turn, turn, turning, shownOf, readableOf, writableOf, putMaskedOf, putRegisterOf, takesOf, acWordOf, immediateWordOf, cellTurnOf, adjustedOf, decimalOf, otherTurnOf, calledOf, returnedOf, returnedWithOf, aloneOf, turnOf}
-use Rattle.sh_core.proofs.Plain.{never, past-registers}
+use Rattle.sh_core.proofs.Plain.{past-registers}
 use Rattle.sh_turn.proofs.Turns.{writable, Turns, turn-right}
 use Rattle.sh_ticks.proofs.Quiet.{timed-mode, timed-pending, timed-address, awake-quiet, instructed-quiet, clock-quiet}
 

@@ -8,7 +8,7 @@ use lib.Dec.{ltb, eqb}
 use lib.ListN.{set}
 use borrow.Author.Tests.{lt-ltb, eq-eqb, ne-eqb, eqb-true, ltb-false}
 use Rattle.lent.specs.Lent.{pick, at}
-use Rattle.lent.proofs.Laws.{test, by-test, by-eq, by-lt}
+use Rattle.lent.proofs.Laws.{test, by-test, by-eq, by-lt, never}
 use Rattle.word.proofs.Every.{every, every-at}
 use Rattle.word.specs.declared.Operation.{Operation}
 use Rattle.word.specs.declared.Operation.the-variants as Operation
@@ -33,7 +33,7 @@ use Rattle.sh_core.specs.Quick.{Quick, quickly, staysOf, gotOf, goneOf, putOf}
 use Rattle.sh_core.specs.Quick.{coreIn}
 use Rattle.sh_turn.specs.declared.Turned.{Turned}
 use Rattle.sh_turn.specs.Turn.{Turn, turning, shownOf, maskOf, readableOf, writableOf, putMaskedOf, putRegisterOf, takesOf, codeOf, writesOf, transferredOf, acResultOf, immediateResultOf, acWordOf, immediateWordOf, cellTurnOf, adjustedOf, decimalOf, tableOf, otherTurnOf, calledOf, returnedOf, returnedWithOf, aloneOf, turnOf}
-use Rattle.sh_core.proofs.Plain.{never, seen-plain}
+use Rattle.sh_core.proofs.Plain.{seen-plain}
 use Rattle.sh_core.proofs.Words.{past}
 use Rattle.sh_core.proofs.Right.{doneOf, inside, took-core, put-right, low-word, middle-word, stays-never}
 

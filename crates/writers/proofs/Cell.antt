@@ -8,7 +8,7 @@ use lib.Dec.{eqb}
 use lib.Bits.{bitAnd, bitOr}
 use borrow.Author.Tests.{eq-eqb, ne-eqb, eqb-true}
 use Rattle.lent.specs.Lent.{at}
-use Rattle.lent.proofs.Laws.{by-lt, by-eq}
+use Rattle.lent.proofs.Laws.{by-lt, by-eq, never}
 use Rattle.sh_map.specs.declared.map.Kind.{Kind}
 use Rattle.sh_map.specs.declared.map.Kind.the-variants.{Register, Data, Display, Scan, Sound, Unmapped}
 use Rattle.sh_map.specs.Map.{kindOf, heldIn, heldOf, writtenIn, writtenOf, askableIn, askableOf}
@@ -17,10 +17,6 @@ use Rattle.sh_map.proofs.Below.{below, below-pair}
 use Rattle.sh_cells.specs.Cells.{plainIn, plainOf, valueOf}
 use Rattle.sh_writes.specs.Writes.{keptOf}
 use Rattle.writers.specs.Test.{names}
-
--- a test that fails does not hold
-pub never : {P : Type 0} → false ≡ true → P
-never e = let z : _≡_ {A = ℕ} 0 1 = cc in absurd (omega arith)
 
 pub past-registers : (c : ℕ) → askableOf c ≡ true → (0x20 ≤ c) × (c < 0x36E)
 unfolding askableOf askableIn kindOf

@@ -8,7 +8,7 @@ use lib.Dec.{eqb}
 use lib.Seq.{getD-set-same, getD-set-other}
 use borrow.Author.Tests.{eqb-true, eqb-false}
 use Rattle.lent.specs.Lent.{both, at}
-use Rattle.lent.proofs.Laws.{both-true, test}
+use Rattle.lent.proofs.Laws.{both-true, test, never}
 use Rattle.word.specs.declared.Decoded.{Decoded}
 use Rattle.word.specs.declared.Instruction.{Instruction}
 use Rattle.word.specs.Word.{decodeOf}
@@ -20,7 +20,7 @@ use Rattle.sh_rules.proofs.Fits.{Fit, fit-of, cell-small}
 use Rattle.sh_cells.specs.Cells.{targetOf, valueOf}
 use Rattle.writers.specs.Statement.{Changes}
 use Rattle.writers.specs.Test.{names, writesIn, writesBy, writesOf}
-use Rattle.writers.proofs.Cell.{never, past-registers, kept-askable, value-askable, names-itself, names-pointed}
+use Rattle.writers.proofs.Cell.{past-registers, kept-askable, value-askable, names-itself, names-pointed}
 use Rattle.writers.proofs.Witness.{arrived, pointing, holds, quiet, means, arrived-well}
 use Rattle.writers.proofs.Forms.{leftOf, Value, Form, form-of}
 use Rattle.writers.proofs.Forms.Form.{Writes, Leaves}

@@ -10,6 +10,7 @@ use lib.ListN.{set}
 use lib.Seq.{getD-set-other}
 use borrow.Author.Tests.{eqb-true, eqb-false, not-true, not-false}
 use Rattle.lent.specs.Lent.{both, at}
+use Rattle.lent.proofs.Laws.{never}
 use Rattle.word.specs.declared.Operation.{Operation}
 use Rattle.word.specs.declared.Operation.the-variants.{Adc, Add, Sbc, Sub, Eor, Or, And}
 use Rattle.word.specs.declared.ImmediateOperation.{ImmediateOperation}
@@ -27,7 +28,7 @@ use Rattle.sh_cells.specs.Cells.{targetOf, valueOf, readOf}
 use Rattle.sh_writes.specs.Writes.{keptOf, writeOf}
 use Rattle.sh_execute.specs.Execute.{putOf, storedOf, accumulatorFormOf, memoryFormOf, ldaOf, staOf, ldiOf, withImmediateOf, storedImmediateOf, immediateFormOf, daaOf, dasOf, rtnwOf, executeOf}
 use Rattle.writers.specs.Test.{names, changing, writesIn}
-use Rattle.writers.proofs.Cell.{never, past-registers}
+use Rattle.writers.proofs.Cell.{past-registers}
 
 -- what is left in memory by a write of v to the cell that x means
 unfoldable pub leftOf : State → ℕ → ℕ → List ℕ

@@ -1,7 +1,7 @@
 -- `sh_run::stretch::many`: bytes whose bits taken together are 0 are 0 each.
 use native.Mathlib.Omega.{arith}
 use borrow.Author.Needs.{needs}
-use Rattle.sh_core.proofs.Plain.{never}
+use Rattle.lent.proofs.Laws.{never}
 use Rattle.sh_run.proofs.Stretches.{many-by}
 use Rattle.sh_run.proofs.stretch.many.Statement.{statement}
 use Rattle.sh_run.proofs.stretch.many.Tie as tie
