@@ -1,4 +1,4 @@
--- A well-formed machine passes through its 43 bytes unchanged: no rule lets a word of the record outgrow two bytes.
+-- A well-formed machine passes through its 45 bytes unchanged: no rule lets a word of the record outgrow two bytes.
 use mathlib.Core.Path.{_≡_, refl}
 use Prim.Native.Nat.{ℕ, _%_, _<_}
 use native.Mathlib.Omega.{arith}

@@ -93,7 +93,7 @@ stopped-by-other why n reason events p t g = rw (← p, t, g)
 
 -- a call for C from its parts: the words and the record read, the call's answer, the record written back, what is told
 pub answer-told : (b : List ℕ) (x a : Answered) (k : List ℕ) (t : Said) →
-    a ≡ x → length b ≡ 43 → k ≡ pastedOf b 0 (bytesOf (a .after .machine)) → t ≡ outcomeTold (a .outcome) → stepped t (a .after .memory) k ≡ stepTold x
+    a ≡ x → length b ≡ 45 → k ≡ pastedOf b 0 (bytesOf (a .after .machine)) → t ≡ outcomeTold (a .outcome) → stepped t (a .after .memory) k ≡ stepTold x
 unfolding stepTold
 answer-told b x a k t e n s g = rw (← e, s, record-whole (a .after .machine) b n, g)
 
@@ -103,7 +103,7 @@ two-words body l event m =
     step-same (wordsAtOf body (m .pc) (m .address)) (wordsOf body 4096) (state m l) (words-at-second body (m .pc) (m .address)) (words-at-first body (m .pc) (m .address)) event (words-at-length body (m .pc) (m .address))
 
 pub step-told : (body l b : List ℕ) (event : ℕ) (w : List ℕ) (m : Machine) (a : Answered) (k : List ℕ) (t : Said) →
-    m ≡ recordOf b → w ≡ wordsAtOf body (m .pc) (m .address) → a ≡ stepOf w (state m l) event → length b ≡ 43 → k ≡ pastedOf b 0 (bytesOf (a .after .machine)) → t ≡ outcomeTold (a .outcome) →
+    m ≡ recordOf b → w ≡ wordsAtOf body (m .pc) (m .address) → a ≡ stepOf w (state m l) event → length b ≡ 45 → k ≡ pastedOf b 0 (bytesOf (a .after .machine)) → t ≡ outcomeTold (a .outcome) →
     stepped t (a .after .memory) k ≡ stepTold (stepOf (wordsOf body 4096) (state (recordOf b) l) event)
 step-told body l b event w m a k t q p r n s g =
     answer-told b _ a k t
@@ -112,7 +112,7 @@ step-told body l b event w m a k t q p r n s g =
     ∙ (two-words body l event m ∙ ap (λ (u : Machine). stepOf (wordsOf body 4096) (state u l) event) q))) n s g
 
 pub run-told : (body l b script : List ℕ) (stop reason events : ℕ) (w : List ℕ) (m : Machine) (a : RunAnswered) (k : List ℕ) (n : Stopped) →
-    w ≡ wordsOf body 4096 → m ≡ recordOf b → a ≡ runCallOf w (state m l) script stop → length b ≡ 43 → k ≡ pastedOf b 0 (bytesOf (a .after .machine)) → n ≡ reasonTold (a .reason) (a .events) reason events →
+    w ≡ wordsOf body 4096 → m ≡ recordOf b → a ≡ runCallOf w (state m l) script stop → length b ≡ 45 → k ≡ pastedOf b 0 (bytesOf (a .after .machine)) → n ≡ reasonTold (a .reason) (a .events) reason events →
     ran n (a .after .memory) k ≡ runTold (runCallOf (wordsOf body 4096) (state (recordOf b) l) script stop) reason events
 unfolding runTold
 run-told body l b script stop reason events w m a k n p q r h s t = rw (← p, ← q, ← r, s, record-whole (a .after .machine) b h, t)

@@ -26,7 +26,7 @@ abbrev pub Bytes : List ℕ → Type 0
 Bytes b = (k : ℕ) → at b k < 256
 
 -- The lent memory l and the lent record b.
-module _ (l b : List ℕ) (n : length b ≡ 43) (fit : Bytes b) where
+module _ (l b : List ℕ) (n : length b ≡ 45) (fit : Bytes b) where
   again : bytesOf (recordOf b) ≡ b
   again = back-and-there b n fit
 
@@ -56,7 +56,7 @@ unfolding hostStepOf
 step-leaves body l b e fit =
     let Left : Stepped → Type 0 = λ r. (r .told .number ≡ 0 → ⊥) → r ≡ stepped (r .told) l b in
     by-eq Left (length body) 8192 _ _
-    (λ h. by-eq Left (length b) 43 _ _
+    (λ h. by-eq Left (length b) 45 _ _
     (λ n. answer-left l b n fit _ _ (step.step-leaves (wordsOf body 4096) (state (recordOf b) l) e))
     (λ n f. refl))
     (λ h f. refl)
@@ -68,7 +68,7 @@ unfolding hostRunOf
 run-leaves body l b script stop reason events fit =
     let Left : Ran → Type 0 = λ r. (r .stop .told .number ≡ 0 → ⊥) → (r .stop .told .number ≡ 6 → ⊥) → r ≡ ran (stopped (r .stop .told) reason events) l b in
     by-eq Left (length body) 8192 _ _
-    (λ h. by-eq Left (length b) 43 _ _
+    (λ h. by-eq Left (length b) 45 _ _
     (λ n. run-left l b n fit _ _ _ reason events
     (λ why e other. ap (λ (a : RunAnswered). a .after) (run.run-leaves (wordsOf body 4096) (state (recordOf b) l) script stop why e other)))
     (λ n f g. refl))

@@ -1,4 +1,4 @@
--- fresh, for C (01, "Reset"): 2, 4 for a record that is not 43 bytes, 12; a refusal leaves memory and record.
+-- fresh, for C (01, "Reset"): 2, 4 for a record that is not 45 bytes, 12; a refusal leaves memory and record.
 use Prim.Native.Nat.{ℕ}
 use mathlib.Core.List.{List}
 use lib.Dec.{ltb, eqb}
@@ -12,7 +12,7 @@ use Rattle.host.specs.Step.{Stepped, stepped, stepTold}
 unfoldable pub hostFreshOf : ℕ → List ℕ → List ℕ → Stepped
 hostFreshOf options l b =
     pick (eqb (length l) 1024)
-    (pick (eqb (length b) 43)
+    (pick (eqb (length b) 45)
     (pick (ltb options 8) (stepTold (freshCallOf options l)) (stepped (refusedTold (refusal.Options options)) l b))
     (stepped (refusedTold refusal.Record) l b))
     (stepped (refusedTold (refusal.MemoryLength (length l))) l b)

@@ -12,6 +12,6 @@ use Rattle.host.specs.Told.{Filled, filled, roomTold, shortTold}
 
 unfoldable pub hostPictureOf : List ℕ → List ℕ → List ℕ → List ℕ → ℕ → Filled
 hostPictureOf l b wiring room count =
-    pick (eqb (length b) 43)
+    pick (eqb (length b) 45)
     (roomTold drawnTold (pictureOf (state (recordOf b) l) wiring room) count)
     (filled (counted (shortTold l) count) room)

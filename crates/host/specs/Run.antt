@@ -28,7 +28,7 @@ runTold a reason events =
 unfoldable pub hostRunOf : List ℕ → List ℕ → List ℕ → List ℕ → ℕ → ℕ → ℕ → Ran
 hostRunOf body l b script stop reason events =
     pick (eqb (length body) 8192)
-    (pick (eqb (length b) 43)
+    (pick (eqb (length b) 45)
     (runTold (runCallOf (wordsOf body 4096) (state (recordOf b) l) script stop) reason events)
     (ran (stopped (shortTold l) reason events) l b))
     (ran (stopped (refusedTold (ProgramLength (length body))) reason events) l b)

@@ -1,4 +1,4 @@
--- step, for C: the program as a kind 1 body, the record as 43 bytes (01, "What is lent"; 02, P1).
+-- step, for C: the program as a kind 1 body, the record as 45 bytes (01, "What is lent"; 02, P1 and P2).
 use Prim.Native.Nat.{ℕ}
 use mathlib.Core.List.{List}
 use lib.Dec.{eqb}
@@ -29,7 +29,7 @@ stepTold a = stepped (outcomeTold (a .outcome)) (a .after .memory) (bytesOf (a .
 unfoldable pub hostStepOf : List ℕ → List ℕ → List ℕ → ℕ → Stepped
 hostStepOf body l b e =
     pick (eqb (length body) 8192)
-    (pick (eqb (length b) 43)
+    (pick (eqb (length b) 45)
     (stepTold (stepOf (wordsOf body 4096) (state (recordOf b) l) e))
     (stepped (shortTold l) l b))
     (stepped (refusedTold (ProgramLength (length body))) l b)

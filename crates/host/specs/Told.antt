@@ -7,7 +7,7 @@ use Rattle.refusal.specs.Told.{Said, Counted}
 use Rattle.sh_rules.specs.declared.judge.Judged.{Judged}
 use Rattle.sh_rules.specs.Judge.{firstOf, memoryJudged, judgedTold}
 
--- a record of another length than 43 bytes is 4 (01, with the bytes that 02, P1 adds), and 2 and 3 come before it
+-- a record of another length than 45 bytes is 4 (01, with the bytes that 02, P1 and P2 add), and 2 and 3 come before it
 unfoldable pub shortTold : List ℕ → Said
 shortTold memory = judgedTold (firstOf (memoryJudged memory) (Judged.Refused Refusal.Record))
 

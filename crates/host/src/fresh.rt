@@ -11,7 +11,7 @@ ghost use Rattle.host.specs.Step.{stepped, stepTold};
 ghost use Rattle.host.specs.Fresh.{hostFreshOf};
 
 fn made(memory: &mut [u8], bytes: &mut [u8], options: u32, value: &mut u64) -> u32
-    requires { ⌜ length (now bytes) ≡ 43 ⌝ }
+    requires { ⌜ length (now bytes) ≡ 45 ⌝ }
     ensures { λ r. ⌜ stepped (said r (now (value .exit))) (now (memory .exit)) (now (bytes .exit)) ≡ stepTold (freshCallOf options (now (memory .entry))) ⌝ }
 {
     let a = call_fresh::fresh(options, memory);

@@ -53,7 +53,7 @@ fn done(
     events: &mut u64,
     value: &mut u64,
 ) -> u32
-    requires { ⌜ length (now bytes) ≡ 43 ⌝ }
+    requires { ⌜ length (now bytes) ≡ 45 ⌝ }
     ensures { λ r. ⌜ ran (stopped (said r (now (value .exit))) (now (reason .exit)) (now (events .exit))) (now (memory .exit)) (now (bytes .exit)) ≡ runTold (runCallOf (wordsOf (now (program .entry)) 4096) (state (recordOf (now (bytes .entry))) (now (memory .entry))) (now (script .entry)) stop) (now (reason .entry)) (now (events .entry)) ⌝ }
 {
     let w = words::words_of(program);

@@ -13,7 +13,7 @@ ghost use Rattle.refusal.specs.Told.{said};
 ghost use Rattle.host.specs.Step.{stepped, stepTold, hostStepOf};
 
 fn done(program: &[u8], memory: &mut [u8], bytes: &mut [u8], event: u8, value: &mut u64) -> u32
-    requires { ⌜ length (now bytes) ≡ 43 ⌝ }
+    requires { ⌜ length (now bytes) ≡ 45 ⌝ }
     ensures { λ r. ⌜ stepped (said r (now (value .exit))) (now (memory .exit)) (now (bytes .exit)) ≡ stepTold (stepOf (wordsOf (now (program .entry)) 4096) (state (recordOf (now (bytes .entry))) (now (memory .entry))) event) ⌝ }
 {
     let m = record::record_of(bytes);

@@ -49,7 +49,7 @@ pub fn written(n: u64, count: &mut u64, value: &mut u64) -> u32
     done(value)
 }
 
-// A record of another length than 43 bytes: the memory is judged first.
+// A record of another length than 45 bytes: the memory is judged first.
 pub fn short(memory: &[u8], value: &mut u64) -> u32
     ensures { λ r. ⌜ said r (now (value .exit)) ≡ shortTold (now (memory .entry)) ⌝ }
 {

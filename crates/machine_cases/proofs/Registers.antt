@@ -7,7 +7,8 @@ use lib.ListN.{replicate, set}
 use Rattle.lent.specs.Lent.{at, both}
 use Rattle.sh_map.specs.Map.{kindOf, heldOf, heldIn, writtenOf, writtenIn, registerBits, registerWritten}
 use Rattle.sh_periods.specs.Periods.{periodOf, periods}
-use Rattle.sh_state.specs.Record.{freshOf, setPinA, setPinB, setPinC, setPinD, setCounter, setLoad, setPrescaler, setBasePrescaler, setBaseCounter, setWatchdog, setPending}
+use Rattle.sh_halves.specs.Halves.{releasedOf, lowOf}
+use Rattle.sh_state.specs.Record.{freshOf, setPinA, setPinB, setPinC, setPinD, setCounter, setLoad, setPrescaler, setBasePrescaler, setBaseCounter, setWatchdog, setPending, setFrozen}
 use Rattle.sh_state.specs.State.{State, state}
 use Rattle.sh_cells.specs.Cells.{targetOf, pointedOf, valueOf, portOf, plainIn, plainOf, restartedOf}
 use Rattle.sh_writes.specs.Writes.{writeOf, noticedOf, keptOf, baseWrittenOf, loadLowOf, loadHighOf, askedOf}
@@ -137,9 +138,9 @@ edges =
     ∷ []
 
 pub registers-agree : T (all registers)
-unfolding row all right agrees written reads desk registers kindOf heldOf heldIn writtenOf writtenIn registerBits registerWritten periodOf periods freshOf setPinA setPinB setPinC setPinD setCounter setLoad setPrescaler setBasePrescaler setBaseCounter setWatchdog setPending targetOf pointedOf valueOf portOf plainIn plainOf writeOf noticedOf keptOf baseWrittenOf loadLowOf loadHighOf askedOf restartedOf
+unfolding row all right agrees written reads desk registers kindOf heldOf heldIn writtenOf writtenIn registerBits registerWritten periodOf periods freshOf setPinA setPinB setPinC setPinD setCounter setLoad setPrescaler setBasePrescaler setBaseCounter setWatchdog setPending setFrozen releasedOf lowOf targetOf pointedOf valueOf portOf plainIn plainOf writeOf noticedOf keptOf baseWrittenOf loadLowOf loadHighOf askedOf restartedOf
 registers-agree = tt
 
 pub edges-agree : T (all edges)
-unfolding row all right agrees written reads desk edges kindOf heldOf heldIn writtenOf writtenIn registerBits registerWritten periodOf periods freshOf setPinA setPinB setPinC setPinD setCounter setLoad setPrescaler setBasePrescaler setBaseCounter setWatchdog setPending targetOf pointedOf valueOf portOf plainIn plainOf writeOf noticedOf keptOf baseWrittenOf loadLowOf loadHighOf askedOf restartedOf
+unfolding row all right agrees written reads desk edges kindOf heldOf heldIn writtenOf writtenIn registerBits registerWritten periodOf periods freshOf setPinA setPinB setPinC setPinD setCounter setLoad setPrescaler setBasePrescaler setBaseCounter setWatchdog setPending setFrozen releasedOf lowOf targetOf pointedOf valueOf portOf plainIn plainOf writeOf noticedOf keptOf baseWrittenOf loadLowOf loadHighOf askedOf restartedOf
 edges-agree = tt

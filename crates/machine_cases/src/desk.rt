@@ -11,8 +11,8 @@ use wire::record;
 
 const NOP: u16 = 0xFFFF;
 
-// Where each field of a record stands among its 43 bytes, in 01's order with each stack entry and each port's pins as one, then each channel's count and output; then the end.
-const PLACES: [u8; 30] = [
+// Where each field of a record stands among its 45 bytes, in 01's order with each stack entry and each port's pins as one, then each channel's count and output, the frozen nibble and its mark; then the end.
+const PLACES: [u8; 32] = [
     0,
     2,
     3,
@@ -43,6 +43,8 @@ const PLACES: [u8; 30] = [
     40,
     42,
     43,
+    44,
+    45,
 ];
 
 pub struct Case {
@@ -176,7 +178,7 @@ fn changed(m: Machine, field: u32, value: u16) -> Machine {
 }
 
 fn put_field(bytes: &mut [u8], field: usize, value: u16) {
-    if 28 < field {
+    if 30 < field {
         return;
     }
     let at = (PLACES[field] % 64) as usize;

@@ -47,6 +47,7 @@ pub fn left(events: usize, m: Machine, memory: &[u8]) {
     timers(&bytes);
     pins(&bytes);
     tones(&bytes);
+    frozen(&bytes);
     cells(memory);
 }
 
@@ -107,6 +108,13 @@ fn tones(bytes: &[u8]) {
     single(bytes, 39);
     pair(bytes, 40);
     single(bytes, 42);
+}
+
+// The frozen nibble of Timer0's counter and its mark.
+fn frozen(bytes: &[u8]) {
+    text(b" frozen");
+    single(bytes, 43);
+    single(bytes, 44);
 }
 
 // A field of two bytes: four hexadecimal digits.

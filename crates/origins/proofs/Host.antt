@@ -26,7 +26,7 @@ module _ (body l b : List ℕ) (c : ℕ) (h : askableOf c ≡ true) where
       let s = state (recordOf b) l in
       let Digit : Stepped → Type 0 = λ r. (at (r .memory) c ≡ at l c → ⊥) → (e ≡ 0x00) × Wrote (wordsOf body 4096) s c (at (r .memory) c) in
       by-eq Digit (length body) 8192 _ _
-      (λ n. by-eq Digit (length b) 43 _ _ (λ k. step-digit (wordsOf body 4096) s e c h) (λ k d. absurd (d refl)))
+      (λ n. by-eq Digit (length b) 45 _ _ (λ k. step-digit (wordsOf body 4096) s e c h) (λ k d. absurd (d refl)))
       (λ n d. absurd (d refl))
 
   -- galhoveia_run: where it leaves the cell's byte other than it was, it left the memory of the run, and the value has its origin in it
@@ -40,6 +40,6 @@ module _ (body l b : List ℕ) (c : ℕ) (h : askableOf c ≡ true) where
       let s = state (recordOf b) l in
       let Digit : Ran → Type 0 = λ r. (at (r .memory) c ≡ at l c → ⊥) → (r .memory ≡ runOf p stop script s 0 .after .memory) × Origin p stop script s c in
       by-eq Digit (length body) 8192 _ _
-      (λ n. by-eq Digit (length b) 43 _ _
+      (λ n. by-eq Digit (length b) 45 _ _
       (λ k d. let o = run-digit p s script stop c h d in (ap (λ (t : State). t .memory) (o .0), o .1)) (λ k d. absurd (d refl)))
       (λ n d. absurd (d refl))

@@ -10,8 +10,10 @@ use Rattle.sh_map.specs.declared.map.Kind.{Kind}
 use Rattle.sh_map.specs.declared.map.Kind.the-variants.{Register, Data, Display, Scan, Sound, Unmapped}
 use Rattle.sh_map.specs.Map.{kindOf}
 use Rattle.sh_periods.specs.Periods.{periodOf}
+use Rattle.sh_halves.specs.Halves.{releasedOf, frozenOf}
+use Rattle.sh_halves.proofs.Kept.{released-fits, frozen-fits, low-small}
 use Rattle.sh_state.specs.State.{State, state}
-use Rattle.sh_rules.proofs.Fits.{Fit, MemoryFit, period-positive, cell-small, watchdog-fits}
+use Rattle.sh_rules.proofs.Fits.{Fit, MemoryFit, period-positive, cell-small, watchdog-fits, frozen-set-fits}
 use Rattle.sh_cells.specs.Cells.{portOf, plainIn, plainOf, valueOf, restartedOf, seenOf, readOf}
 
 port-small : (pin latch control : ℕ) → pin < 16 → latch < 16 → portOf pin latch control < 16
@@ -33,7 +35,7 @@ unfolding valueOf plainOf
 value-small {s} f a =
     let m = f .machine in
     let small = cell-small (f .memory) in
-    by-eq (λ v. v < 16) a 0x04 _ _ (λ e. omega arith)
+    by-eq (λ v. v < 16) a 0x04 _ _ (λ e. low-small (s .machine .frozen) (s .machine .counter) (m .frozen))
     (λ n. by-eq (λ v. v < 16) a 0x05 _ _ (λ e. omega arith)
     (λ n. by-eq (λ v. v < 16) a 0x08 _ _ (λ e. port-small _ _ _ (m .pina) (small 0x08))
     (λ n. by-eq (λ v. v < 16) a 0x09 _ _ (λ e. port-small _ _ _ (m .pinb) (small 0x09))
@@ -44,5 +46,9 @@ pub read-keeps : {s : State} → Fit s → (a : ℕ) → Fit (state (readOf s a 
 unfolding readOf seenOf restartedOf
 read-keeps {s} f a =
     let w = at (s .memory) 0x1E in
-    by-eq (λ m. Fit (state m (s .memory))) a 0x1E _ _
-    (λ e. record { memory = f .memory; machine = watchdog-fits (f .machine) (periodOf w) w (period-positive w) (le-refl _) }) (λ n. f)
+    by-eq (λ m. Fit (state m (s .memory))) a 0x04 _ _
+    (λ e. record { memory = f .memory; machine = frozen-set-fits (f .machine) releasedOf released-fits })
+    (λ n. by-eq (λ m. Fit (state m (s .memory))) a 0x05 _ _
+    (λ e. record { memory = f .memory; machine = frozen-set-fits (f .machine) (frozenOf (s .machine .counter)) (frozen-fits (s .machine .counter)) })
+    (λ n. by-eq (λ m. Fit (state m (s .memory))) a 0x1E _ _
+    (λ e. record { memory = f .memory; machine = watchdog-fits (f .machine) (periodOf w) w (period-positive w) (le-refl _) }) (λ n. f)))

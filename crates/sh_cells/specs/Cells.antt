@@ -1,4 +1,4 @@
--- What an address means, and what a cell reads as (01, "One instruction").
+-- What an address means, what a cell reads as, and what reading it does (01, "One instruction"; 02, P2).
 use Prim.Native.Nat.{ℕ, _+_, _-_, _*_, _/_, _%_}
 use mathlib.Core.List.{List}
 use lib.Dec.{eqb}
@@ -9,7 +9,8 @@ use Rattle.sh_map.specs.declared.map.Kind.{Kind}
 use Rattle.sh_map.specs.declared.map.Kind.the-variants.{Register, Data, Display, Scan, Sound, Unmapped}
 use Rattle.sh_map.specs.Map.{kindOf}
 use Rattle.sh_periods.specs.Periods.{periodOf}
-use Rattle.sh_state.specs.Record.{setWatchdog}
+use Rattle.sh_halves.specs.Halves.{releasedOf, frozenOf, lowOf}
+use Rattle.sh_state.specs.Record.{setWatchdog, setFrozen}
 use Rattle.sh_state.specs.State.{State}
 use Rattle.sh_cells.specs.declared.Reading.{Reading}
 
@@ -38,10 +39,10 @@ plainIn Unmapped l a = 0
 unfoldable pub plainOf : List ℕ → ℕ → ℕ
 plainOf l a = plainIn (kindOf a) l a
 
--- what a cell reads as: $004 and $005 the live counter, $008-$00B the ports with their control in $016-$019
+-- what a cell reads as: $004 the counter's low nibble, frozen or live, $005 its high one (02, P2), $008-$00B the ports with their control in $016-$019
 unfoldable pub valueOf : State → ℕ → ℕ
 valueOf s a =
-    pick (eqb a 0x04) (s .machine .counter % 16)
+    pick (eqb a 0x04) (lowOf (s .machine .frozen) (s .machine .counter))
     (pick (eqb a 0x05) (s .machine .counter / 16)
     (pick (eqb a 0x08) (portOf (s .machine .pina) (at (s .memory) 0x08) (at (s .memory) 0x16))
     (pick (eqb a 0x09) (portOf (s .machine .pinb) (at (s .memory) 0x09) (at (s .memory) 0x17))
@@ -52,9 +53,12 @@ valueOf s a =
 unfoldable pub restartedOf : Machine → ℕ → Machine
 restartedOf m control = setWatchdog m (periodOf control)
 
--- what reading a cell does to the record: $01E restarts the watchdog
+-- what reading a cell does to the record: $004 releases the frozen nibble, $005 freezes the one that stands (02, P2), $01E restarts the watchdog
 unfoldable pub seenOf : State → ℕ → Machine
-seenOf s a = pick (eqb a 0x1E) (restartedOf (s .machine) (at (s .memory) 0x1E)) (s .machine)
+seenOf s a =
+    pick (eqb a 0x04) (setFrozen (s .machine) releasedOf)
+    (pick (eqb a 0x05) (setFrozen (s .machine) (frozenOf (s .machine .counter)))
+    (pick (eqb a 0x1E) (restartedOf (s .machine) (at (s .memory) 0x1E)) (s .machine)))
 
 -- a read: the value, and the record after it
 unfoldable pub readOf : State → ℕ → Reading

@@ -4,6 +4,8 @@ use sh_map::map::Kind;
 use sh_state::machine::Machine;
 ghost use mathlib.Core.Path.{_≡_};
 ghost use Rattle.lent.specs.Lent.{at};
+ghost use Rattle.sh_halves.specs.Halves.{releasedOf, frozenOf};
+ghost use Rattle.sh_state.specs.Record.{setFrozen};
 ghost use Rattle.sh_state.specs.State.{state};
 ghost use Rattle.sh_cells.specs.Cells.{pointedOf, targetOf, portOf, plainIn, plainOf, valueOf, restartedOf, seenOf};
 
@@ -70,7 +72,7 @@ pub fn value(m: Machine, memory: &[u8], a: u16) -> u8
     ensures { λ r. ⌜ r ≡ valueOf (state m (now (memory .entry))) a ⌝ }
 {
     if a == 0x04 {
-        return m.counter % 16;
+        return sh_halves::low(m.frozen, m.counter);
     }
     if a == 0x05 {
         return m.counter / 16;
@@ -105,10 +107,32 @@ fn restarted_as_held(m: Machine, memory: &[u8]) -> Machine
     restarted(m, map::cell(memory, 0x1E))
 }
 
-// What reading a cell does to the record: $01E restarts the watchdog.
+fn released(m: Machine) -> Machine
+    ensures { λ r. ⌜ r ≡ setFrozen m releasedOf ⌝ }
+{
+    let mut n = m;
+    n.frozen = sh_halves::released();
+    n
+}
+
+fn frozen(m: Machine) -> Machine
+    ensures { λ r. ⌜ r ≡ setFrozen m (frozenOf (m .counter)) ⌝ }
+{
+    let mut n = m;
+    n.frozen = sh_halves::freeze(m.counter);
+    n
+}
+
+// What reading a cell does to the record: $004 releases Timer0's frozen nibble, $005 freezes one, $01E restarts the watchdog.
 pub fn seen(m: Machine, memory: &[u8], a: u16) -> Machine
     ensures { λ r. ⌜ r ≡ seenOf (state m (now (memory .entry))) a ⌝ }
 {
+    if a == 0x04 {
+        return released(m);
+    }
+    if a == 0x05 {
+        return frozen(m);
+    }
     if a == 0x1E {
         return restarted_as_held(m, memory);
     }

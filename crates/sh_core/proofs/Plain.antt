@@ -47,7 +47,9 @@ module _ (s : State) (a : ℕ) (e : askableOf a ≡ true) where
 
   pub seen-plain : seenOf s a ≡ s .machine
   unfolding seenOf
-  seen-plain = let low = past-registers a e in rw (ne-eqb a 0x1E (omega arith))
+  seen-plain =
+      let low = past-registers a e in
+      rw (ne-eqb a 0x04 (omega arith), ne-eqb a 0x05 (omega arith), ne-eqb a 0x1E (omega arith))
 
   noticed-plain : (v : ℕ) → noticedOf s a v ≡ s .machine
   unfolding noticedOf

@@ -13,6 +13,7 @@ use Rattle.lent.proofs.Laws.{test, by-eq, at-past}
 use Rattle.sh_map.specs.Map.{kindOf, registerBits, heldIn, heldOf}
 use Rattle.sh_periods.specs.Periods.{periods, periodOf}
 use Rattle.sh_tones.proofs.Kept.{silent-fits}
+use Rattle.sh_halves.proofs.Kept.{released-fits}
 use Rattle.sh_state.specs.Record.{freshOf}
 use Rattle.sh_state.specs.State.{State, state}
 use Rattle.sh_map.proofs.Below.{below, below-pair}
@@ -80,7 +81,7 @@ fresh-record-fits : (o t b w c : ℕ) → o < 8 → periodOf w ≡ 4096 → c % 
 unfolding freshOf
 fresh-record-fits o t b w c h p q =
     let entries : (i : ℕ) → at (replicate {A = ℕ} 8 0) i < 8192 = λ i. rw (← zeros-at 8 i) (omega arith) in
-    search (ratio-positive, base-ratio-positive, silent-fits, arith)
+    search (ratio-positive, base-ratio-positive, silent-fits, released-fits, arith)
 
 -- a fresh record beside a memory that was reset
 fresh-beside : (c : Column) (o : ℕ) {l : List ℕ} → o < 8 → MemoryFit l → Fit (state (freshOf o) (resetMemoryOf c o l))

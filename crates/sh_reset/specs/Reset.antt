@@ -57,7 +57,7 @@ resetMemoryOf column options l = mapFrom (resetCellOf column options) l 0
 unfoldable pub pinsOf : Machine → Machine → Machine
 pinsOf m pins = setPinA (setPinB (setPinC (setPinD m (pins .pind)) (pins .pinc)) (pins .pinb)) (pins .pina)
 
--- HOUSE, and 02, P1, of the tone channels: all 0, running, watchdog at its period, which is 4,096 as both columns leave bits 2-0 of $01E at 0; options and pins stay
+-- HOUSE, and 02, of the tone channels (P1) and the frozen nibble (P2): all 0, running, watchdog at its period, which is 4,096 as both columns leave bits 2-0 of $01E at 0; options and pins stay
 unfoldable pub resetRecordOf : Machine → Machine
 resetRecordOf m = pinsOf (freshOf (m .options)) m
 

@@ -1,4 +1,4 @@
--- The rules of a memory and of a record beside it (01, "What is lent"; 02, P1: the tone channels): a part for each.
+-- The rules of a memory and of a record beside it (01, "What is lent"; 02, P1: the tone channels; 02, P2: the frozen nibble): a part for each.
 use Prim.Native.Nat.{ℕ, _/_, _%_}
 use mathlib.Core.Bool.{Bool, false}
 use mathlib.Core.List.{List}
@@ -10,6 +10,7 @@ use Rattle.sh_state.specs.declared.machine.Machine.{Machine}
 use Rattle.lent.specs.declared.Found.{Found}
 use Rattle.sh_map.specs.Map.{heldOf}
 use Rattle.sh_tones.specs.Tone.{channelsFit}
+use Rattle.sh_halves.specs.Halves.{frozenFits}
 use Rattle.sh_periods.specs.Periods.{ratioOf, baseRatioOf, baseOn, periodOf}
 use Rattle.sh_state.specs.State.{State}
 
@@ -79,4 +80,4 @@ unfoldable pub wellFormedOf : State → Bool
 wellFormedOf s =
     both (both (cpuFits (s .machine)) (stackFits (s .machine .stack)))
     (both (both (bytesFit (s .machine)) (pinsFit (s .machine)))
-    (both (both (pendingFits (s .machine)) (channelsFit (s .machine .channels))) (tiesFit s)))
+    (both (both (pendingFits (s .machine)) (both (channelsFit (s .machine .channels)) (frozenFits (s .machine .frozen)))) (tiesFit s)))

@@ -228,7 +228,8 @@ pub fn well_formed(m: Machine, memory: &[u8]) -> bool
     let s = m.stack;
     let cpu = lent::both(cpu_fits(m), stack_fits(s));
     let ports = lent::both(bytes_fit(m), pins_fit(m));
-    let rest = lent::both(pending_fits(m), sh_tones::fit(m.channels));
+    let parts = lent::both(sh_tones::fit(m.channels), sh_halves::fits(m.frozen));
+    let rest = lent::both(pending_fits(m), parts);
     lent::both(
         cpu,
         lent::both(ports, lent::both(rest, ties_fit(m, memory))),

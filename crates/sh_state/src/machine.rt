@@ -1,4 +1,5 @@
 // The machine's record, by value.
+use sh_halves::Frozen;
 use sh_tones::Channels;
 ghost use mathlib.Core.Path.{_≡_};
 ghost use Rattle.sh_state.specs.Record.{setPc, entryOf, pushOf, popOf, newestOf, freshOf};
@@ -11,13 +12,15 @@ pub struct Machine {
     pub watchdog: u16,
     // what a pending ROM read reads; 0 where none is
     pub address: u16,
+    // what a read of $005 left for the next read of $004
+    pub frozen: Frozen,
     // CY times 4,096 plus PC, newest first
     pub stack: [u16; Machine::LEVELS],
     pub channels: Channels,
     pub ac: u8,
     pub cy: u8,
-    pub counter: u8,
     pub load: u8,
+    pub counter: u8,
     // 0 running, 1 HALT, 2 STOP
     pub mode: u8,
     // 1 while a ROM read waits
@@ -63,6 +66,7 @@ impl Machine {
             pending: 0,
             address: 0,
             channels: sh_tones::silent(),
+            frozen: sh_halves::released(),
         }
     }
 

@@ -100,7 +100,7 @@ module _ (a : ℕ) (r : Readable a) where
 
   seen-same : (s : State) → seenOf s a ≡ s .machine
   unfolding seenOf
-  seen-same s = rw (ne-eqb a 0x1E (r .watchdog))
+  seen-same s = rw (ne-eqb a 0x04 (r .low-nibble), ne-eqb a 0x05 (r .high-nibble), ne-eqb a 0x1E (r .watchdog))
 
   write-masked : (s : State) (v : ℕ) → writableOf a ≡ true → writeOf s a v ≡ state (s .machine) (set (s .memory) a (portOf (at (s .memory) a) v (maskOf a)))
   unfolding writeOf noticedOf keptOf portOf

@@ -16,10 +16,12 @@ use Rattle.sh_map.specs.declared.map.Kind.the-variants.{Register, Data, Display
 use Rattle.sh_map.specs.Map.{kindOf, registerBits, registerWritten, heldIn, heldOf, writtenIn, writtenOf}
 use Rattle.sh_periods.specs.Periods.{periods, periodOf}
 use Rattle.sh_state.specs.Record.{setBasePrescaler, setBaseCounter}
+use Rattle.sh_halves.specs.Halves.{releasedOf}
+use Rattle.sh_halves.proofs.Kept.{released-fits}
 use Rattle.sh_state.specs.State.{State, state}
 use Rattle.sh_map.proofs.Below.{below, below-at, below-pair}
 use Rattle.sh_map.proofs.Within.{joined-within, cut-within, cut-by-within}
-use Rattle.sh_rules.proofs.Fits.{Fit, MachineFit, ratio-positive, base-ratio-positive, period-positive, cell-small, store-fits, prescaler-fits, counter-fits, load-fits, base-timer-fits, watchdog-fits, pending-read-fits, fit-at, store-keeps}
+use Rattle.sh_rules.proofs.Fits.{Fit, MachineFit, ratio-positive, base-ratio-positive, period-positive, cell-small, store-fits, prescaler-fits, counter-fits, load-fits, base-timer-fits, watchdog-fits, pending-read-fits, frozen-set-fits, fit-at, store-keeps}
 use Rattle.sh_cells.specs.Cells.{restartedOf}
 use Rattle.sh_writes.specs.Writes.{keptOf, baseWrittenOf, loadLowOf, loadHighOf, askedOf, noticedOf, writeOf}
 
@@ -94,7 +96,7 @@ write-keeps {s} f a v h =
     (λ n3. by-eq (λ n. Fit (state n (set l a k))) a 0x04 _ _
     (λ e. store-keeps (record { memory = f .memory; machine = load-fits m _ (omega arith) }) a k (omega arith) held)
     (λ _. by-eq (λ n. Fit (state n (set l a k))) a 0x05 _ _
-    (λ e. store-keeps (record { memory = f .memory; machine = counter-fits (load-fits m _ (omega arith)) _ (omega arith) }) a k (omega arith) held)
+    (λ e. store-keeps (record { memory = f .memory; machine = frozen-set-fits (counter-fits (load-fits m _ (omega arith)) _ (omega arith)) releasedOf released-fits }) a k (omega arith) held)
     (λ _. by-eq (λ n. Fit (state n (set l a k))) a 0x1A _ _
     (λ e. store-keeps (record { memory = f .memory; machine = pending-read-fits m 1 _ (omega arith) (omega arith) (omega arith) }) a k (omega arith) held)
     (λ _. by-eq (λ n. Fit (state n (set l a k))) a 0x1E _ _

@@ -1,4 +1,4 @@
--- What a write leaves in the cell and in the record (01, "One instruction").
+-- What a write leaves in the cell and in the record (01, "One instruction"; 02, P2).
 use Prim.Native.Nat.{ℕ, _+_, _-_, _*_, _/_, _%_}
 use lib.Dec.{eqb}
 use lib.Bits.{bitAnd, bitOr}
@@ -7,7 +7,8 @@ use Rattle.lent.specs.Lent.{pick, at}
 use Rattle.sh_state.specs.declared.machine.Machine.{Machine}
 use Rattle.sh_map.specs.Map.{writtenOf}
 use Rattle.sh_periods.specs.Periods.{baseOn}
-use Rattle.sh_state.specs.Record.{setPrescaler, setCounter, setLoad, setBasePrescaler, setBaseCounter, setPending}
+use Rattle.sh_state.specs.Record.{setPrescaler, setCounter, setLoad, setBasePrescaler, setBaseCounter, setPending, setFrozen}
+use Rattle.sh_halves.specs.Halves.{releasedOf}
 use Rattle.sh_state.specs.State.{State, state}
 use Rattle.sh_cells.specs.Cells.{restartedOf}
 
@@ -23,9 +24,9 @@ baseWrittenOf m v = pick (baseOn v) (setBasePrescaler m 0) (setBaseCounter (setB
 unfoldable pub loadLowOf : Machine → ℕ → Machine
 loadLowOf m v = setLoad m (m .load / 16 * 16 + v % 16)
 
--- $005: the load's high nibble, and then the counter takes the load
+-- $005: the load's high nibble, and then the counter takes the load; "a write to $005 releases" the frozen nibble (02, P2)
 unfoldable pub loadHighOf : Machine → ℕ → Machine
-loadHighOf m v = setCounter (setLoad m (v % 16 * 16 + m .load % 16)) (v % 16 * 16 + m .load % 16)
+loadHighOf m v = setFrozen (setCounter (setLoad m (v % 16 * 16 + m .load % 16)) (v % 16 * 16 + m .load % 16)) releasedOf
 
 -- $01A: a read is pending at $01C, $01B and the nibble written
 unfoldable pub askedOf : State → ℕ → Machine

@@ -41,6 +41,7 @@ fn load_high(m: Machine, v: u8) -> Machine
     let mut n = m;
     n.load = l;
     n.counter = l;
+    n.frozen = sh_halves::released();
     n
 }
 

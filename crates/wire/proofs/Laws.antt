@@ -1,4 +1,4 @@
--- Laws of the record written over 43 bytes, of words read from bytes, and of numbers written as bytes.
+-- Laws of the record written over 45 bytes, of words read from bytes, and of numbers written as bytes.
 use Prim.Native.Nat.{ℕ, zero, suc, _+_, _*_, _/_, _%_, _<_, _≤_}
 use mathlib.Core.Path.{_≡_, refl, sym, ap, _∙_}
 use mathlib.Core.List.{List, [], _∷_, _++_, append-nil}
@@ -21,11 +21,11 @@ pasted-whole d s e =
     let none : drop (length s) d ≡ [] = drop-of-length-le d {i = length s} (omega arith) in
     pasted-front d s (omega arith) ∙ (ap (λ (r : List ℕ). s ++ r) none ∙ append-nil s)
 
-length-bytes : (m : Machine) → length (bytesOf m) ≡ 43
+length-bytes : (m : Machine) → length (bytesOf m) ≡ 45
 unfolding bytesOf pairsOf
 length-bytes m = refl
 
-pub record-whole : (m : Machine) (s : List ℕ) → length s ≡ 43 → pastedOf s 0 (bytesOf m) ≡ bytesOf m
+pub record-whole : (m : Machine) (s : List ℕ) → length s ≡ 45 → pastedOf s 0 (bytesOf m) ≡ bytesOf m
 record-whole m s n = pasted-whole s (bytesOf m) (omega (arith, length-bytes m))
 
 pub words-zero : (l : List ℕ) → wordsOf l 0 ≡ []

@@ -1,4 +1,4 @@
--- The record and its 43 bytes turn into each other without loss, and numbers of 16 bits read back from their bytes.
+-- The record and its 45 bytes turn into each other without loss, and numbers of 16 bits read back from their bytes.
 use Prim.Native.Nat.{ℕ, zero, suc, _+_, _*_, _/_, _%_, _<_, _≤_}
 use mathlib.Core.Path.{_≡_, refl, ap, sym, _∙_}
 use mathlib.Core.List.{List, [], _∷_, _++_, append-assoc}
@@ -8,7 +8,7 @@ use lib.Seq.{drop-cons, take-suc, getD-append-seam, getD-append-add}
 use Rattle.sh_state.specs.declared.machine.Machine.{Machine}
 use Rattle.lent.specs.Lent.{at, pairAtOf}
 use Rattle.wire.specs.Words.{two, pairsOf, wordsOf}
-use Rattle.wire.specs.Record.{bytesOf, recordOf, channelAt, channelsAt}
+use Rattle.wire.specs.Record.{bytesOf, recordOf, channelAt, channelsAt, frozenAt}
 use Rattle.wire.proofs.Laws.{length-pairs}
 
 -- n entries from i on
@@ -46,14 +46,14 @@ low : (a : ℕ) {b : ℕ} → b < 256 → (256 * a + b) % 256 ≡ b
 low a hb = omega arith
 
 pub there-and-back : (m : Machine) → Sized m → recordOf (bytesOf m) ≡ m
-unfolding bytesOf recordOf channelsAt channelAt pairAtOf pairsOf
+unfolding bytesOf recordOf channelsAt channelAt frozenAt pairAtOf pairsOf
 there-and-back m ok =
     simp (joined (ok .pc), joined (ok .prescaler), joined (ok .watchdog), joined (ok .address), joined (ok .first), joined (ok .second), joined (ok .entries 0), joined (ok .entries 1), joined (ok .entries 2), joined (ok .entries 3), joined (ok .entries 4), joined (ok .entries 5), joined (ok .entries 6), joined (ok .entries 7), spread-all 8 (m .stack) (ok .eight))
 
-pub back-and-there : (l : List ℕ) → length l ≡ 43 → ((k : ℕ) → getD l k 0 < 256) → bytesOf (recordOf l) ≡ l
-unfolding bytesOf recordOf channelsAt channelAt pairAtOf pairsOf
+pub back-and-there : (l : List ℕ) → length l ≡ 45 → ((k : ℕ) → getD l k 0 < 256) → bytesOf (recordOf l) ≡ l
+unfolding bytesOf recordOf channelsAt channelAt frozenAt pairAtOf pairsOf
 back-and-there l n b =
-    simp (high (b 0) (b 1), low (getD l 0 0) (b 1), high (b 5) (b 6), low (getD l 5 0) (b 6), high (b 7) (b 8), low (getD l 7 0) (b 8), high (b 9) (b 10), low (getD l 9 0) (b 10), high (b 11) (b 12), low (getD l 11 0) (b 12), high (b 13) (b 14), low (getD l 13 0) (b 14), high (b 15) (b 16), low (getD l 15 0) (b 16), high (b 17) (b 18), low (getD l 17 0) (b 18), high (b 19) (b 20), low (getD l 19 0) (b 20), high (b 21) (b 22), low (getD l 21 0) (b 22), high (b 27) (b 28), low (getD l 27 0) (b 28), high (b 35) (b 36), low (getD l 35 0) (b 36), high (b 37) (b 38), low (getD l 37 0) (b 38), high (b 40) (b 41), low (getD l 40 0) (b 41)) (spread-all 43 l n)
+    simp (high (b 0) (b 1), low (getD l 0 0) (b 1), high (b 5) (b 6), low (getD l 5 0) (b 6), high (b 7) (b 8), low (getD l 7 0) (b 8), high (b 9) (b 10), low (getD l 9 0) (b 10), high (b 11) (b 12), low (getD l 11 0) (b 12), high (b 13) (b 14), low (getD l 13 0) (b 14), high (b 15) (b 16), low (getD l 15 0) (b 16), high (b 17) (b 18), low (getD l 17 0) (b 18), high (b 19) (b 20), low (getD l 19 0) (b 20), high (b 21) (b 22), low (getD l 21 0) (b 22), high (b 27) (b 28), low (getD l 27 0) (b 28), high (b 35) (b 36), low (getD l 35 0) (b 36), high (b 37) (b 38), low (getD l 37 0) (b 38), high (b 40) (b 41), low (getD l 40 0) (b 41)) (spread-all 45 l n)
 
 -- a number behind other bytes
 pair-behind : (a r : List ℕ) (v : ℕ) → v < 65536 → pairAtOf (a ++ two v r) (length a) ≡ v

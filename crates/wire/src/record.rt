@@ -1,15 +1,16 @@
-// The machine's record as 43 bytes.
+// The machine's record as 45 bytes.
 use crate::words;
+use sh_halves::Frozen;
 use sh_state::machine::Machine;
 use sh_tones::Channel;
 use sh_tones::Channels;
 ghost use Prim.Native.Nat.{_<_};
 ghost use mathlib.Core.Path.{_≡_};
 ghost use Rattle.lent.specs.Lent.{pastedOf};
-ghost use Rattle.wire.specs.Record.{bytesOf, channelAt, channelsAt, recordOf};
+ghost use Rattle.wire.specs.Record.{bytesOf, channelAt, channelsAt, frozenAt, recordOf};
 ghost use Rattle.wire.specs.Words.{pairsOf};
 
-pub const BYTES: usize = 43;
+pub const BYTES: usize = 45;
 
 // A channel: two bytes of its count, and its output.
 fn channel_at(s: &[u8], i: usize) -> Channel
@@ -32,6 +33,15 @@ fn channels_at(s: &[u8]) -> Channels
     }
 }
 
+fn frozen_at(s: &[u8]) -> Frozen
+    ensures { λ r. ⌜ r ≡ frozenAt (now (s .entry)) ⌝ }
+{
+    Frozen {
+        nibble: lent::peek(s, 43),
+        mark: lent::peek(s, 44),
+    }
+}
+
 // The record that bytes say; what is missing reads as 0.
 pub fn record_of(s: &[u8]) -> Machine
     ensures { λ r. ⌜ r ≡ recordOf (now (s .entry)) ⌝ }
@@ -49,6 +59,7 @@ pub fn record_of(s: &[u8]) -> Machine
     let watchdog = lent::pair_at(s, 27);
     let address = lent::pair_at(s, 35);
     let channels = channels_at(s);
+    let frozen = frozen_at(s);
     Machine {
         pc,
         ac: lent::peek(s, 2),
@@ -69,6 +80,7 @@ pub fn record_of(s: &[u8]) -> Machine
         pending: lent::peek(s, 34),
         address,
         channels,
+        frozen,
     }
 }
 
@@ -131,10 +143,12 @@ pub fn bytes_of(m: Machine) -> [u8; BYTES]
         (m.channels.second.count / 256 % 256) as u8,
         (m.channels.second.count % 256) as u8,
         m.channels.second.output,
+        m.frozen.nibble,
+        m.frozen.mark,
     ]
 }
 
-// The record written where it was lent; nothing happens where 43 bytes do not fit.
+// The record written where it was lent; nothing happens where 45 bytes do not fit.
 pub fn write_record(m: Machine, s: &mut [u8])
     ensures { λ _. ⌜ now (s .exit) ≡ pastedOf (now (s .entry)) 0 (bytesOf m) ⌝ }
 {

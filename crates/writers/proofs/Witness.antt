@@ -12,6 +12,7 @@ use borrow.Author.Tests.{ne-eqb}
 use Rattle.lent.specs.Lent.{at}
 use Rattle.sh_rules.specs.declared.judge.Judged.the-variants.{Fine}
 use Rattle.sh_tones.proofs.Kept.{silent-fits}
+use Rattle.sh_halves.proofs.Kept.{released-fits}
 use Rattle.sh_state.specs.declared.machine.Machine.{Machine}
 use Rattle.sh_rules.specs.Judge.{stateJudged}
 use Rattle.sh_map.specs.Map.{kindOf, registerBits, heldIn, heldOf, askableOf}
@@ -58,7 +59,7 @@ fresh-fits : MachineFit (freshOf 0) 0 0 0 0
 unfolding freshOf periodOf periods
 fresh-fits =
     let entries : (i : ℕ) → at (replicate {A = ℕ} 8 0) i < 8192 = λ i. rw (← zeros-at 8 i) (omega arith) in
-    search (silent-fits, ratio-positive, base-ratio-positive, arith)
+    search (silent-fits, released-fits, ratio-positive, base-ratio-positive, arith)
 
 arrived-fits : (a ac cy : ℕ) → a < 4096 → ac < 16 → cy < 2 → MachineFit (arrived a ac cy) 0 0 0 0
 unfolding arrived

@@ -5,11 +5,12 @@ use borrow.Author.Needs.{needs}
 use Rattle.sh_base_timer.proofs.prescaled_by.Statement.{statement}
 use Rattle.sh_base_timer.proofs.prescaled_by.Tie as tie
 
+-- the base prescaler stands deeper in the record than `search` looks
 cast-next : tie.Need-cast-next
-cast-next c = search needs
+cast-next c = search (needs, c .struct-known .given .1 .1 .1 .1 .1 .1 .1 .1 .1 .1 .1 .1 .1 .1 .1 .1 .1 .0)
 
 add-next : tie.Need-add-next
-add-next c = search needs
+add-next c = search (needs, c .struct-known .given .1 .1 .1 .1 .1 .1 .1 .1 .1 .1 .1 .1 .1 .1 .1 .1 .1 .0)
 
 cast-prescaled-to : tie.Need-cast-prescaled-to
 cast-prescaled-to c = search needs

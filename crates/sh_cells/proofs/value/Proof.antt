@@ -5,6 +5,9 @@ use borrow.Author.Needs.{needs}
 use Rattle.sh_cells.proofs.value.Statement.{statement}
 use Rattle.sh_cells.proofs.value.Tie as tie
 
+low-requires : tie.Need-low-requires
+low-requires c κs = search needs
+
 returns : tie.Need-returns
 unfolding valueOf
 returns c = search (eq-eqb, ne-eqb)
@@ -52,6 +55,7 @@ pub value-spec : {M : Type 1} → statement M
 value-spec =
     tie.close
     (tie.spec
+    low-requires
     returns
     returns-2
     port-cell-requires

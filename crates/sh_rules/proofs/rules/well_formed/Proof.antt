@@ -22,26 +22,32 @@ pins-fit-requires c κs = search needs
 both-requires-2 : tie.Need-both-requires-2
 both-requires-2 c κs = search needs
 
-pending-fits-requires : tie.Need-pending-fits-requires
-pending-fits-requires c κs = search needs
-
 fit-requires : tie.Need-fit-requires
 fit-requires c κs = search needs
 
-ties-fit-requires : tie.Need-ties-fit-requires
-ties-fit-requires c κs = search needs
+fits-requires : tie.Need-fits-requires
+fits-requires c κs = search needs
 
 both-requires-3 : tie.Need-both-requires-3
 both-requires-3 c κs = search needs
 
+pending-fits-requires : tie.Need-pending-fits-requires
+pending-fits-requires c κs = search needs
+
 both-requires-4 : tie.Need-both-requires-4
 both-requires-4 c κs = search needs
+
+ties-fit-requires : tie.Need-ties-fit-requires
+ties-fit-requires c κs = search needs
 
 both-requires-5 : tie.Need-both-requires-5
 both-requires-5 c κs = search needs
 
 both-requires-6 : tie.Need-both-requires-6
 both-requires-6 c κs = search needs
+
+both-requires-7 : tie.Need-both-requires-7
+both-requires-7 c κs = search needs
 
 returns : tie.Need-returns
 unfolding wellFormedOf
@@ -57,11 +63,13 @@ well-formed-spec =
     bytes-fit-requires
     pins-fit-requires
     both-requires-2
-    pending-fits-requires
     fit-requires
+    fits-requires
     both-requires-3
-    ties-fit-requires
+    pending-fits-requires
     both-requires-4
+    ties-fit-requires
     both-requires-5
     both-requires-6
+    both-requires-7
     returns)

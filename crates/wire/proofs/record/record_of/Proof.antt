@@ -43,6 +43,9 @@ pair-at-requires-12 c κs = search needs
 channels-at-requires : tie.Need-channels-at-requires
 channels-at-requires c κs = search needs
 
+frozen-at-requires : tie.Need-frozen-at-requires
+frozen-at-requires c κs = search needs
+
 peek-requires : tie.Need-peek-requires
 peek-requires c κs = search needs
 
@@ -85,7 +88,8 @@ peek-requires-13 c κs = search needs
 returns : tie.Need-returns
 unfolding recordOf
 returns c =
-    let w25 = c .before in
+    let w26 = c .before in
+    let w25 = w26 .before in
     let w24 = w25 .before in
     let w23 = w24 .before in
     let w22 = w23 .before in
@@ -110,7 +114,7 @@ returns c =
     let w3 = w4 .before in
     let w2 = w3 .before in
     let w1 = w2 .before in
-    simp (w1 .pair-at .ensures, w2 .pair-at2 .ensures, w3 .pair-at3 .ensures, w4 .pair-at4 .ensures, w5 .pair-at5 .ensures, w6 .pair-at6 .ensures, w7 .pair-at7 .ensures, w8 .pair-at8 .ensures, w9 .pair-at9 .ensures, w10 .pair-at10 .ensures, w11 .pair-at11 .ensures, w12 .pair-at12 .ensures, w13 .channels-at .ensures, w14 .peek .ensures, w15 .peek2 .ensures, w16 .peek3 .ensures, w17 .peek4 .ensures, w18 .peek5 .ensures, w19 .peek6 .ensures, w20 .peek7 .ensures, w21 .peek8 .ensures, w22 .peek9 .ensures, w23 .peek10 .ensures, w24 .peek11 .ensures, w25 .peek12 .ensures, c .peek13 .ensures)
+    simp (w1 .pair-at .ensures, w2 .pair-at2 .ensures, w3 .pair-at3 .ensures, w4 .pair-at4 .ensures, w5 .pair-at5 .ensures, w6 .pair-at6 .ensures, w7 .pair-at7 .ensures, w8 .pair-at8 .ensures, w9 .pair-at9 .ensures, w10 .pair-at10 .ensures, w11 .pair-at11 .ensures, w12 .pair-at12 .ensures, w13 .channels-at .ensures, w14 .frozen-at .ensures, w15 .peek .ensures, w16 .peek2 .ensures, w17 .peek3 .ensures, w18 .peek4 .ensures, w19 .peek5 .ensures, w20 .peek6 .ensures, w21 .peek7 .ensures, w22 .peek8 .ensures, w23 .peek9 .ensures, w24 .peek10 .ensures, w25 .peek11 .ensures, w26 .peek12 .ensures, c .peek13 .ensures)
 
 pub record-of-spec : {M : Type 1} → statement M
 record-of-spec =
@@ -129,6 +133,7 @@ record-of-spec =
     pair-at-requires-11
     pair-at-requires-12
     channels-at-requires
+    frozen-at-requires
     peek-requires
     peek-requires-2
     peek-requires-3
