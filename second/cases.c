@@ -5,7 +5,7 @@
      W address word   a word of the program
      M address byte   a cell, raw
      R field number   a field of the record, in document 01's order, each stack entry and each port's pins one field;
-                      then count and output of each sound channel
+                      then count and output of each sound channel, the frozen nibble and its mark
      L words cells    how many are lent
      S count event    events at the script's end
      P seed           a program drawn from the seed
@@ -18,7 +18,7 @@
 #include <stdlib.h>
 #include <string.h>
 
-enum { ROOM_WORDS = SECOND_WORDS + 1, ROOM_CELLS = SECOND_CELLS + 1, ROOM_EVENTS = 8192, FIELDS = 29 };
+enum { ROOM_WORDS = SECOND_WORDS + 1, ROOM_CELLS = SECOND_CELLS + 1, ROOM_EVENTS = 8192, FIELDS = 31 };
 
 static uint8_t program[2 * ROOM_WORDS], memory[ROOM_CELLS], record[SECOND_RECORD_BYTES], script[ROOM_EVENTS];
 static size_t words, cells, events;
@@ -81,6 +81,7 @@ static void print_left(uint64_t done, const uint8_t *of_record, const uint8_t *o
     print_fields(of_record, " options", 22, 22);
     print_fields(of_record, " pending", 23, 24);
     print_fields(of_record, " tones", 25, 28);
+    print_fields(of_record, " frozen", 29, 30);
     printf("\n  cells");
     for (size_t at = 0; at < cells; at++)
         if (of_memory[at] != 0)

@@ -10,8 +10,8 @@ enum { DPL = 0x010, DPM = 0x011, DPH = 0x012, NIBBLES = 16, CARRIES = 2 };
 
 /* Cells that do something when read or written, an unmapped one, the pseudo register itself, and the two ends of
    the data cells: through the pointer none of them may reach the asked cell. */
-static const uint16_t elsewhere[] = {0x000, 0x002, 0x003, 0x005, 0x008, 0x00F, 0x01A, 0x01E,
-                                     0x020, 0x16F, 0x170, 0x300, 0x36D, 0x377, 0x3FF};
+static const uint16_t elsewhere[] = {0x000, 0x002, 0x003, 0x004, 0x005, 0x008, 0x00F, 0x01A,
+                                     0x01E, 0x020, 0x16F, 0x170, 0x300, 0x36D, 0x377, 0x3FF};
 
 /* A running machine with nothing enabled or requested, so that the cycle would execute the word. */
 static void make_plain(struct second_machine *machine)

@@ -169,7 +169,21 @@ static void clock_sound(struct second_machine *m)
         clock_tone(&m->tone[1], m->cell[TONE2_LOW], m->cell[TONE2_HIGH]);
 }
 
-/* ---- Reset (003, table 3.3; 01, Reset; 02, P1) ---- */
+/* ---- Timer0 read in two halves (02, P2) ---- */
+
+static void freeze(struct second_machine *m)
+{
+    m->frozen = m->timer0_counter & 15;
+    m->frozen_mark = 1;
+}
+
+static void release(struct second_machine *m)
+{
+    m->frozen = 0;
+    m->frozen_mark = 0;
+}
+
+/* ---- Reset (003, table 3.3; 01, Reset; 02, P1 and P2) ---- */
 
 static uint8_t bonding_of(const struct second_machine *m)
 {
@@ -193,6 +207,7 @@ static void reset_registers(struct second_machine *m)
     m->pending = 0;
     m->pending_address = NO_READ;
     memset(m->tone, 0, sizeof m->tone);
+    release(m);
     m->watchdog = period_of(m);
 }
 
@@ -273,9 +288,14 @@ static unsigned resolve(const struct second_machine *m, unsigned address)
 static uint8_t read_cell(struct second_machine *m, unsigned address)
 {
     switch (address) {
-    case TL0:
-        return m->timer0_counter & 15;
+    case TL0: {
+        uint8_t low = m->frozen_mark ? m->frozen : m->timer0_counter & 15;
+
+        release(m);
+        return low;
+    }
     case TH0:
+        freeze(m);
         return m->timer0_counter >> 4;
     case PORTA: case PORTB: case PORTC: case PORTD: {
         unsigned port = address - PORTA;
@@ -310,6 +330,7 @@ static void write_cell(struct second_machine *m, unsigned address, uint8_t nibbl
     case TH0:
         m->timer0_load = (uint8_t)(nibble << 4) | (m->timer0_load & 0x0F);
         m->timer0_counter = m->timer0_load;
+        release(m);
         break;
     case BONDING:
         m->cell[BONDING] = (nibble & 0xC) | (m->cell[BONDING] & 3);
@@ -707,6 +728,8 @@ void second_unpack(struct second_machine *machine, const uint8_t *memory, const 
         from = take_pair(from, &machine->tone[channel].count);
         from = take_byte(from, &machine->tone[channel].output);
     }
+    from = take_byte(from, &machine->frozen);
+    (void)take_byte(from, &machine->frozen_mark);
 }
 
 void second_pack(const struct second_machine *machine, uint8_t *memory, uint8_t *record)
@@ -735,6 +758,8 @@ void second_pack(const struct second_machine *machine, uint8_t *memory, uint8_t 
         to = give_pair(to, machine->tone[channel].count);
         to = give_byte(to, machine->tone[channel].output);
     }
+    to = give_byte(to, machine->frozen);
+    (void)give_byte(to, machine->frozen_mark);
 }
 
 static bool is_well_formed(const struct second_machine *m)
@@ -764,6 +789,8 @@ static bool is_well_formed(const struct second_machine *m)
     for (int channel = 0; channel < SECOND_TONES; channel++)
         if (m->tone[channel].count > TONE_COUNT_LAST || m->tone[channel].output > 1)
             return false;
+    if (m->frozen > 15 || m->frozen_mark > 1 || (m->frozen != 0 && !m->frozen_mark))
+        return false;
     return m->pending || m->pending_address == NO_READ;
 }
 

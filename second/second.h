@@ -12,7 +12,7 @@
 #define SECOND_CELLS         1024
 #define SECOND_LEVELS        8
 #define SECOND_TONES         2
-#define SECOND_RECORD_BYTES  43
+#define SECOND_RECORD_BYTES  45
 
 enum second_reason { SECOND_AT_ADDRESS = 0, SECOND_AT_UNLISTED = 1, SECOND_AT_END = 2 };
 enum second_mode { SECOND_RUNNING = 0, SECOND_HALT = 1, SECOND_STOP = 2 };
@@ -70,6 +70,8 @@ struct second_machine {
     uint8_t options;
     uint8_t pending;
     uint8_t pins[4];
+    uint8_t frozen; /* the low nibble that the next read of $004 gives where the mark is 1 */
+    uint8_t frozen_mark;
     uint16_t pending_address;
     uint16_t timer0_prescaler;
     uint16_t watchdog;

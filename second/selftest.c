@@ -32,15 +32,15 @@ static void is(const char *what, long long got, long long wanted)
 
 /* ---- A desk with one machine on it ---- */
 
-static uint8_t program[8192], memory[1024], record[43];
+static uint8_t program[8192], memory[1024], record[45];
 static uint64_t told; /* the value of the last call */
 
-/* Where each field of the record begins (01, What is lent: fields in that order; 02, P1: 43 bytes). */
+/* Where each field of the record begins (01, What is lent: fields in that order; 02, P1 and P2: 45 bytes). */
 enum {
     R_PC = 0, R_AC = 2, R_CY = 3, R_MODE = 4, R_STACK = 5, R_T0_PRESCALER = 21, R_T0_COUNTER = 23, R_T0_LOAD = 24,
     R_BASE_PRESCALER = 25, R_BASE_COUNTER = 26, R_WATCHDOG = 27, R_PIN_A = 29, R_PIN_B = 30, R_PIN_C = 31,
     R_PIN_D = 32, R_OPTIONS = 33, R_PENDING = 34, R_PENDING_ADDRESS = 35, R_COUNT_1 = 37, R_OUTPUT_1 = 39,
-    R_COUNT_2 = 40, R_OUTPUT_2 = 42
+    R_COUNT_2 = 40, R_OUTPUT_2 = 42, R_FROZEN = 43, R_FROZEN_MARK = 44
 };
 enum { RUNNING = 0, IN_HALT = 1, IN_STOP = 2 };
 enum { CYCLE = 0x00, BASE_PULSE = 0x01, WATCHDOG_PULSE = 0x02, RESET_PIN = 0x03, SOUND_CLOCK = 0x05 };
@@ -1091,6 +1091,8 @@ static void before_reset(void)
     record[R_OUTPUT_1] = 1;
     set_two(R_COUNT_2, 512);
     record[R_OUTPUT_2] = 1;
+    record[R_FROZEN] = 7;
+    record[R_FROZEN_MARK] = 1;
 }
 
 static void after_reset(void)
@@ -1118,6 +1120,9 @@ static void after_reset(void)
     is("output of channel 1", record[R_OUTPUT_1], 0);
     is("count of channel 2", two(R_COUNT_2), 0);
     is("output of channel 2", record[R_OUTPUT_2], 0);
+    from("02, P2: a reset releases");
+    is("frozen nibble", record[R_FROZEN], 0);
+    is("its mark", record[R_FROZEN_MARK], 0);
     from("01, Reset: pins and cells stay");
     is("pins A", record[R_PIN_A], 1);
     is("pins B", record[R_PIN_B], 2);
@@ -1171,7 +1176,7 @@ static void resets(void)
         is("options", record[R_OPTIONS], options);
         is("watchdog", two(R_WATCHDOG), 4096);
         other = 0;
-        for (int at = 0; at < 43; at++)
+        for (int at = 0; at < 45; at++)
             other += at != R_OPTIONS && at != R_WATCHDOG && record[at] != 0;
         is("other record bytes that aren't 0", other, 0);
         is("a cycle", step(CYCLE), 0);
@@ -1253,7 +1258,7 @@ static void interrupts(void)
 static void asleep(void)
 {
     uint8_t memory_before[1024];
-    uint8_t record_before[43];
+    uint8_t record_before[45];
 
     from("003, 14; reading 1: the cycle that executes HALT does (e)");
     fresh();
@@ -1726,7 +1731,7 @@ static void sound_and_modes(void)
 {
     static const uint8_t script[] = {SOUND_CLOCK, SOUND_CLOCK, CYCLE, SOUND_CLOCK};
     uint8_t memory_before[1024];
-    uint8_t record_before[43];
+    uint8_t record_before[45];
 
     from("02, P1: idle in STOP");
     two_tones();
@@ -1819,6 +1824,321 @@ static void sound(void)
     resets_and_sound();
 }
 
+/* ---- Timer0 read in two halves ---- */
+
+/* Every form that names a cell; what it leaves in AC where the cell reads as 9, 6 and 12, with 3 for AC and immediate
+   and 0 for CY; and whether it reads and whether it writes (01, One instruction; 003, section 17). */
+static const struct form {
+    enum mnemonic mnemonic;
+    uint8_t of_9, of_6, of_12;
+    bool reads, writes;
+} forms[] = {
+    {ADC, 12, 9, 15, true, false},   {ADCM, 12, 9, 15, true, true},  {ADD, 12, 9, 15, true, false},
+    {ADDM, 12, 9, 15, true, true},   {SBC, 5, 2, 8, true, false},    {SBCM, 5, 2, 8, true, true},
+    {SUB, 6, 3, 9, true, false},     {SUBM, 6, 3, 9, true, true},    {EOR, 10, 5, 15, true, false},
+    {EORM, 10, 5, 15, true, true},   {OR, 11, 7, 15, true, false},   {ORM, 11, 7, 15, true, true},
+    {AND, 1, 2, 0, true, false},     {ANDM, 1, 2, 0, true, true},    {LDA, 9, 6, 12, true, false},
+    {STA, 3, 3, 3, false, true},     {ADI, 12, 9, 15, true, false},  {ADIM, 12, 9, 15, true, true},
+    {SBI, 6, 3, 9, true, false},     {SBIM, 6, 3, 9, true, true},    {EORIM, 10, 5, 15, true, true},
+    {ORIM, 11, 7, 15, true, true},   {ANDIM, 1, 2, 0, true, true},   {LDI, 3, 3, 3, false, true},
+    {DAA, 3, 3, 3, true, true},      {DAS, 13, 13, 13, true, true},
+};
+enum { FORMS = sizeof forms / sizeof forms[0] };
+
+static void set_frozen(uint8_t nibble)
+{
+    record[R_FROZEN] = nibble;
+    record[R_FROZEN_MARK] = 1;
+}
+
+static void is_frozen(uint8_t nibble)
+{
+    is("frozen nibble", record[R_FROZEN], nibble);
+    is("its mark", record[R_FROZEN_MARK], 1);
+}
+
+static void is_released(void)
+{
+    is("frozen nibble, released", record[R_FROZEN], 0);
+    is("its mark, released", record[R_FROZEN_MARK], 0);
+}
+
+/* Timer0's counter is $9C and its load $51; the next clock counts. */
+static void counting(void)
+{
+    fresh();
+    memory[0x002] = 6;
+    set_two(R_T0_PRESCALER, 1);
+    record[R_T0_COUNTER] = 0x9C;
+    record[R_T0_LOAD] = 0x51;
+    record[R_AC] = 3;
+}
+
+/* The form at address 0 reaches the cell, by its name or through the pointer. */
+static void put_form(enum mnemonic mnemonic, unsigned cell, bool through_pointer)
+{
+    if (through_pointer)
+        point_at(cell);
+    put(0, made(mnemonic, through_pointer ? 0x00F : cell, 3));
+}
+
+static void form_on_high_half(const struct form *form, bool through_pointer, bool frozen_before)
+{
+    counting();
+    if (frozen_before)
+        set_frozen(6);
+    put_form(form->mnemonic, 0x005, through_pointer);
+    events(CYCLE, 1);
+    is("AC by the live high nibble", record[R_AC], form->of_9);
+    if (form->writes) {
+        is_released();
+        is("load", record[R_T0_LOAD], form->of_9 << 4 | 1);
+        is("counter", record[R_T0_COUNTER], (form->of_9 << 4 | 1) + 1);
+    } else {
+        is_frozen(0xC);
+        is("load", record[R_T0_LOAD], 0x51);
+        is("counter", record[R_T0_COUNTER], 0x9D);
+    }
+}
+
+static void form_on_low_half(const struct form *form, bool through_pointer, bool frozen_before)
+{
+    uint8_t result = frozen_before ? form->of_6 : form->of_12;
+
+    counting();
+    if (frozen_before)
+        set_frozen(6);
+    put_form(form->mnemonic, 0x004, through_pointer);
+    events(CYCLE, 1);
+    is("AC by the low nibble", record[R_AC], result);
+    if (frozen_before && !form->reads)
+        is_frozen(6);
+    else
+        is_released();
+    is("load", record[R_T0_LOAD], form->writes ? 0x50 | result : 0x51);
+    is("counter", record[R_T0_COUNTER], 0x9D);
+}
+
+static void every_form_on_the_halves(void)
+{
+    for (int at = 0; at < FORMS; at++)
+        for (int kind = 0; kind < 4; kind++) {
+            from("02, P2: reading $005 freezes the low nibble, also where one is frozen; writing it releases");
+            form_on_high_half(&forms[at], kind & 1, kind & 2);
+            from("02, P2: reading $004 gives the frozen nibble and releases it, else reads live; writing it does not");
+            form_on_low_half(&forms[at], kind & 1, kind & 2);
+        }
+}
+
+static void one_after_the_other(void)
+{
+    from("02, P2: between the two reads the counter can carry");
+    counting();
+    record[R_T0_COUNTER] = 0x3F;
+    put(0, made(LDA, 0x005, 0));
+    put(1, made(LDA, 0x004, 0));
+    put(2, made(NOP, 0, 0));
+    put(3, made(LDA, 0x004, 0));
+    events(CYCLE, 1);
+    is("high nibble", record[R_AC], 3);
+    is_frozen(15);
+    is("the counter carries", record[R_T0_COUNTER], 0x40);
+    events(CYCLE, 1);
+    is("low nibble", record[R_AC], 15);
+    is_released();
+    events(CYCLE, 2);
+    is("live again", record[R_AC], 1);
+    is_released();
+
+    from("02, P2: the reads may lie far apart, and the counter may come round");
+    counting();
+    record[R_T0_COUNTER] = 0xF8;
+    put(0, made(LDA, 0x005, 0));
+    put(0x200, made(LDA, 0x004, 0));
+    events(CYCLE, 0x200);
+    is("high nibble", record[R_AC], 15);
+    is("IRQT0", memory[0x001], 4);
+    is_frozen(8);
+    events(CYCLE, 1);
+    is("low nibble", record[R_AC], 8);
+    is_released();
+
+    from("02, P2: a nibble 0 can be frozen");
+    counting();
+    record[R_T0_COUNTER] = 0x30;
+    put(0, made(LDA, 0x005, 0));
+    put(1, made(LDA, 0x004, 0));
+    events(CYCLE, 1);
+    is_frozen(0);
+    is("counter", record[R_T0_COUNTER], 0x31);
+    events(CYCLE, 1);
+    is("low nibble", record[R_AC], 0);
+    is_released();
+
+    from("02, P2: the second read of $005 freezes anew");
+    counting();
+    put(0, made(LDA, 0x005, 0));
+    put(1, made(NOP, 0, 0));
+    put(2, made(ADI, 0x05, 0));
+    put(3, made(LDA, 0x004, 0));
+    events(CYCLE, 2);
+    is_frozen(0xC);
+    events(CYCLE, 1);
+    is_frozen(0xD);
+    events(CYCLE, 1);
+    is("low nibble", record[R_AC], 0xD);
+
+    from("02, P2: a write of $005 between the two reads releases, and $004 reads live");
+    counting();
+    put(0, made(LDA, 0x005, 0));
+    put(1, made(LDI, 0x05, 7));
+    put(2, made(LDA, 0x004, 0));
+    events(CYCLE, 2);
+    is_released();
+    is("counter", record[R_T0_COUNTER], 0x71);
+    events(CYCLE, 1);
+    is("low nibble", record[R_AC], 1);
+
+    from("02, P2: a write of $004 between the two reads does not release");
+    counting();
+    put(0, made(LDA, 0x005, 0));
+    put(1, made(LDI, 0x04, 7));
+    put(2, made(LDA, 0x004, 0));
+    events(CYCLE, 2);
+    is("load", record[R_T0_LOAD], 0x57);
+    is_frozen(0xC);
+    events(CYCLE, 1);
+    is("low nibble", record[R_AC], 0xC);
+}
+
+static void what_leaves_the_frozen_nibble(void)
+{
+    static const uint8_t others[] = {BASE_PULSE, WATCHDOG_PULSE, SOUND_CLOCK, PIN_A | 1, PIN_B | 1, PIN_C | 1,
+                                     PIN_D | 1, PIN_A, PIN_B, PIN_C, PIN_D};
+    int touched = 0;
+
+    from("02, P2: no read or write of another cell freezes or releases");
+    for (unsigned address = 0; address < 1024; address++)
+        for (int kind = 0; kind < 4; kind++) {
+            uint8_t nibble = kind & 2 ? 6 : 0, mark = kind & 2 ? 1 : 0;
+
+            counting();
+            record[R_FROZEN] = nibble;
+            record[R_FROZEN_MARK] = mark;
+            put(0, made(kind & 1 ? STA : LDA, address, 0));
+            events(CYCLE, 1);
+            touched += address != 0x004 && address != 0x005
+                       && (record[R_FROZEN] != nibble || record[R_FROZEN_MARK] != mark);
+        }
+    is("times that one does", touched, 0);
+
+    from("02, P2: an overflow does not release");
+    for (uint8_t reload = 0; reload < 2; reload++) {
+        counting();
+        set_frozen(6);
+        memory[0x002] = reload << 3 | 6;
+        record[R_T0_COUNTER] = 255;
+        events(CYCLE, 1);
+        is("counter", record[R_T0_COUNTER], reload ? 0x51 : 0);
+        is("IRQT0", memory[0x001], 4);
+        is_frozen(6);
+        memory[0x001] = 0;
+        memory[0x002] |= 7;
+        set_two(R_T0_PRESCALER, 0);
+        record[R_T0_COUNTER] = 255;
+        record[R_PIN_A] = 1;
+        events(PIN_A, 1);
+        is("IRQT0 by the pin", memory[0x001] & 4, 4);
+        is_frozen(6);
+    }
+
+    from("02, P2: HALT and STOP do not release, nor a cycle asleep; it reads nothing");
+    for (int stop = 0; stop < 2; stop++) {
+        counting();
+        set_frozen(6);
+        put(0, made(stop ? STOP : HALT, 0, 0));
+        put(1, made(LDA, 0x005, 0));
+        events(CYCLE, 1);
+        is("mode", record[R_MODE], stop ? IN_STOP : IN_HALT);
+        is_frozen(6);
+        events(CYCLE, 5);
+        is_frozen(6);
+        put(1, made(LDA, 0x004, 0));
+        events(CYCLE, 5);
+        is_frozen(6);
+        from("02, P2: nor a wake");
+        memory[0x000] = 1;
+        memory[0x001] = 1;
+        events(CYCLE, 1);
+        is("vector", two(R_PC), 4);
+        is_frozen(6);
+    }
+
+    from("02, P2: an interrupt does not release, and the word it stands in front of reads nothing");
+    counting();
+    set_frozen(6);
+    put(0, made(LDA, 0x004, 0));
+    memory[0x000] = 4;
+    memory[0x001] = 4;
+    events(CYCLE, 1);
+    is("vector", two(R_PC), 2);
+    is_frozen(6);
+    put(2, made(RTNI, 0, 0));
+    events(CYCLE, 1);
+    is_frozen(6);
+    events(CYCLE, 1);
+    is("low nibble after the return", record[R_AC], 6);
+    is_released();
+
+    from("02, P2: the frozen nibble is no matter of other events");
+    counting();
+    set_frozen(6);
+    for (size_t at = 0; at < sizeof others; at++) {
+        events(others[at], 1);
+        is_frozen(6);
+    }
+    record[R_PENDING] = 1;
+    events(CYCLE, 1);
+    is("the read has landed", record[R_PENDING], 0);
+    is_frozen(6);
+
+    from("02, P2: what is frozen moves neither counter nor load");
+    counting();
+    set_frozen(6);
+    events(CYCLE, 4);
+    is("counter", record[R_T0_COUNTER], 0x9E);
+    is("load", record[R_T0_LOAD], 0x51);
+}
+
+static void resets_release(void)
+{
+    from("02, P2: a reset releases");
+    counting();
+    set_frozen(6);
+    events(RESET_PIN, 1);
+    is_released();
+    put(0, made(LDA, 0x004, 0));
+    record[R_T0_COUNTER] = 0x12;
+    events(CYCLE, 1);
+    is("live after the pin reset", record[R_AC], 2);
+    fresh_with(1);
+    set_frozen(0);
+    set_two(R_WATCHDOG, 2);
+    events(WATCHDOG_PULSE, 1);
+    is_frozen(0);
+    events(WATCHDOG_PULSE, 1);
+    is("WDF", memory[0x01E], 8);
+    is_released();
+}
+
+static void halves(void)
+{
+    every_form_on_the_halves();
+    one_after_the_other();
+    what_leaves_the_frozen_nibble();
+    resets_release();
+}
+
 /* ---- Runs ---- */
 
 static void runs(void)
@@ -1827,7 +2147,7 @@ static void runs(void)
     static const uint8_t mixed[] = {CYCLE, WATCHDOG_PULSE, CYCLE, PIN_B | 1, CYCLE};
     static const uint8_t pulse_then_cycle[] = {WATCHDOG_PULSE, CYCLE};
     static const uint8_t unknown_late[] = {CYCLE, CYCLE, 0x50};
-    uint8_t record_before[43];
+    uint8_t record_before[45];
 
     from("01, a run stops at the script's end");
     fresh();
@@ -1949,7 +2269,7 @@ static uint32_t refused_alike(void)
 {
     static const uint8_t one_cycle[1] = {CYCLE};
     uint8_t memory_before[1024];
-    uint8_t record_before[43];
+    uint8_t record_before[45];
     uint32_t by_step, by_run;
     uint64_t told_by_step;
 
@@ -2070,6 +2390,8 @@ static void record_refusals(void)
         {"count of channel 2, any high byte", 0x3FF, 0, R_COUNT_2, true, 1015, 0xFFFF},
         {"output of channel 2", 0x377, 2, R_OUTPUT_2, false, 1, 2},
         {"output of channel 2, no bit but the lowest", 0x3FF, 0, R_OUTPUT_2, false, 0, 0xFE},
+        {"frozen nibble with mark 0", 0x3FF, 0, R_FROZEN, false, 0, 1},
+        {"mark of the frozen nibble", 0x3FF, 0, R_FROZEN_MARK, false, 1, 2},
     };
 
     from("01, What is lent, Machine record; What comes back, 4");
@@ -2104,12 +2426,33 @@ static void record_refusals(void)
     set_two(R_PENDING_ADDRESS, 4096);
     is("4096", refused_alike(), 4);
 
-    from("02, P1: the record is 43 bytes; another length is 4");
+    from("02, P2: 4 for a nibble above 15, a mark above 1, a nibble other than 0 with mark 0");
+    for (unsigned mark = 0; mark < 256; mark++) {
+        int misjudged = 0;
+
+        for (unsigned nibble = 0; nibble < 256; nibble++) {
+            bool good = mark == 0 ? nibble == 0 : mark == 1 && nibble <= 15;
+
+            fresh();
+            record[R_FROZEN] = (uint8_t)nibble;
+            record[R_FROZEN_MARK] = (uint8_t)mark;
+            misjudged += step(PIN_D) != (good ? 0 : 4) || told != 0;
+        }
+        is("nibbles misjudged with a mark", misjudged, 0);
+    }
+    fresh();
+    set_frozen(15);
+    is("nibble 15", refused_alike(), 0);
+    set_frozen(16);
+    is("nibble 16", refused_alike(), 4);
+
+    from("02, P2: the record is 45 bytes; another length is 4");
     fresh();
     is("37", second_step(program, 8192, memory, 1024, record, 37, CYCLE, &told), 4);
     is("value", (long long)told, 0);
-    is("42", second_step(program, 8192, memory, 1024, record, 42, CYCLE, &told), 4);
+    is("43", second_step(program, 8192, memory, 1024, record, 43, CYCLE, &told), 4);
     is("44", second_step(program, 8192, memory, 1024, record, 44, CYCLE, &told), 4);
+    is("46", second_step(program, 8192, memory, 1024, record, 46, CYCLE, &told), 4);
 }
 
 static void call_refusals(void)
@@ -2121,20 +2464,20 @@ static void call_refusals(void)
     memory[0x004] = 1;
     record[R_AC] = 16;
     told = 99;
-    is("1", second_step(program, 8190, memory, 1023, record, 42, 0x50, &told), 1);
+    is("1", second_step(program, 8190, memory, 1023, record, 44, 0x50, &told), 1);
     is("told in bytes", (long long)told, 8190);
-    is("1 for words' number", second_step(program, 4096, memory, 1024, record, 43, CYCLE, &told), 1);
+    is("1 for words' number", second_step(program, 4096, memory, 1024, record, 45, CYCLE, &told), 1);
     is("told in bytes", (long long)told, 4096);
-    is("2", second_step(program, 8192, memory, 1023, record, 42, 0x50, &told), 2);
+    is("2", second_step(program, 8192, memory, 1023, record, 44, 0x50, &told), 2);
     is("length", (long long)told, 1023);
-    is("3", second_step(program, 8192, memory, 1024, record, 42, 0x50, &told), 3);
+    is("3", second_step(program, 8192, memory, 1024, record, 44, 0x50, &told), 3);
     is("address", (long long)told, 4);
     memory[0x004] = 0;
-    is("4 by length", second_step(program, 8192, memory, 1024, record, 44, 0x50, &told), 4);
-    is("4 by a field", second_step(program, 8192, memory, 1024, record, 43, 0x50, &told), 4);
+    is("4 by length", second_step(program, 8192, memory, 1024, record, 46, 0x50, &told), 4);
+    is("4 by a field", second_step(program, 8192, memory, 1024, record, 45, 0x50, &told), 4);
     record[R_AC] = 0;
     put(0, 0xC800);
-    is("5", second_step(program, 8192, memory, 1024, record, 43, 0x50, &told), 5);
+    is("5", second_step(program, 8192, memory, 1024, record, 45, 0x50, &told), 5);
     is("place", (long long)told, 0);
     is("6", refused_alike(), 6);
     is("address", (long long)told, 0);
@@ -2166,17 +2509,17 @@ static void call_refusals(void)
     from("reading 20: fresh");
     memset(memory, 0xEE, sizeof memory);
     memset(record, 0xEE, sizeof record);
-    is("2", second_fresh(memory, 1000, record, 42, 8, &told), 2);
+    is("2", second_fresh(memory, 1000, record, 44, 8, &told), 2);
     is("length", (long long)told, 1000);
-    is("4", second_fresh(memory, 1024, record, 42, 8, &told), 4);
+    is("4", second_fresh(memory, 1024, record, 44, 8, &told), 4);
     is("value", (long long)told, 0);
-    is("12", second_fresh(memory, 1024, record, 43, 8, &told), 12);
+    is("12", second_fresh(memory, 1024, record, 45, 8, &told), 12);
     is("options", (long long)told, 8);
-    is("12", second_fresh(memory, 1024, record, 43, 0xFFFFFFFF, &told), 12);
+    is("12", second_fresh(memory, 1024, record, 45, 0xFFFFFFFF, &told), 12);
     is("options", (long long)told, 0xFFFFFFFF);
     is("memory is left", memory[0x013], 0xEE);
     is("record is left", record[0], 0xEE);
-    is("done", second_fresh(memory, 1024, record, 43, 7, &told), 0);
+    is("done", second_fresh(memory, 1024, record, 45, 7, &told), 0);
     is("value", (long long)told, 0);
 }
 
@@ -2337,7 +2680,7 @@ static void pictures(void)
     memory[0x348] = 8;
     memory[0x007] = 4;
     memset(picture, 0xEE, sizeof picture);
-    is("done", second_picture(memory, 1024, record, 43, wiring, 9, picture, 3, &count, &told), 0);
+    is("done", second_picture(memory, 1024, record, 45, wiring, 9, picture, 3, &count, &told), 0);
     is("count", (long long)count, 3);
     is("first", picture[0], 1);
     is("second", picture[1], 1);
@@ -2345,49 +2688,49 @@ static void pictures(void)
     is("beyond", picture[3], 0xEE);
     memory[0x300] = 14;
     memory[0x348] = 7;
-    is("done", second_picture(memory, 1024, record, 43, wiring, 9, picture, 3, &count, &told), 0);
+    is("done", second_picture(memory, 1024, record, 45, wiring, 9, picture, 3, &count, &told), 0);
     is("first", picture[0], 0);
     is("second", picture[1], 0);
     from("01, Panel book: all 0 when LCDON is 0 or in STOP");
     memory[0x300] = 15;
     memory[0x007] = 3;
     picture[0] = 0xEE;
-    is("done", second_picture(memory, 1024, record, 43, wiring, 9, picture, 3, &count, &told), 0);
+    is("done", second_picture(memory, 1024, record, 45, wiring, 9, picture, 3, &count, &told), 0);
     is("LCDON 0", picture[0], 0);
     memory[0x007] = 7;
     record[R_MODE] = IN_STOP;
     picture[0] = 0xEE;
-    is("done", second_picture(memory, 1024, record, 43, wiring, 9, picture, 3, &count, &told), 0);
+    is("done", second_picture(memory, 1024, record, 45, wiring, 9, picture, 3, &count, &told), 0);
     is("STOP", picture[0], 0);
     record[R_MODE] = IN_HALT;
-    is("done", second_picture(memory, 1024, record, 43, wiring, 9, picture, 3, &count, &told), 0);
+    is("done", second_picture(memory, 1024, record, 45, wiring, 9, picture, 3, &count, &told), 0);
     is("HALT shows", picture[0], 1);
 
     from("reading 21: picture, 2, 3, 4, 10, 11, 7");
     picture[0] = 0xEE;
     count = 99;
-    is("7", second_picture(memory, 1024, record, 43, wiring, 9, picture, 2, &count, &told), 7);
+    is("7", second_picture(memory, 1024, record, 45, wiring, 9, picture, 2, &count, &told), 7);
     is("room needed", (long long)told, 3);
     is("count is left", (long long)count, 99);
     is("picture is left", picture[0], 0xEE);
-    is("11, bit", second_picture(memory, 1024, record, 43, bad_bit, 6, picture, 0, &count, &told), 11);
+    is("11, bit", second_picture(memory, 1024, record, 45, bad_bit, 6, picture, 0, &count, &told), 11);
     is("kind", (long long)told, 2);
-    is("11, address", second_picture(memory, 1024, record, 43, not_display, 6, picture, 9, &count, &told), 11);
-    is("11, scan cell", second_picture(memory, 1024, record, 43, scan_cell, 3, picture, 9, &count, &told), 11);
-    is("10, not of threes", second_picture(memory, 1024, record, 43, bad_bit, 5, picture, 9, &count, &told), 10);
+    is("11, address", second_picture(memory, 1024, record, 45, not_display, 6, picture, 9, &count, &told), 11);
+    is("11, scan cell", second_picture(memory, 1024, record, 45, scan_cell, 3, picture, 9, &count, &told), 11);
+    is("10, not of threes", second_picture(memory, 1024, record, 45, bad_bit, 5, picture, 9, &count, &told), 10);
     is("value", (long long)told, 0);
-    is("10, none", second_picture(memory, 1024, record, 43, wiring, 0, picture, 9, &count, &told), 10);
+    is("10, none", second_picture(memory, 1024, record, 45, wiring, 0, picture, 9, &count, &told), 10);
     for (int element = 0; element < 241; element++)
         many[3 * element] = 3;
-    is("240 elements", second_picture(memory, 1024, record, 43, many, 720, picture, 240, &count, &told), 0);
+    is("240 elements", second_picture(memory, 1024, record, 45, many, 720, picture, 240, &count, &told), 0);
     is("count", (long long)count, 240);
-    is("10, 241 elements", second_picture(memory, 1024, record, 43, many, 723, picture, 241, &count, &told), 10);
+    is("10, 241 elements", second_picture(memory, 1024, record, 45, many, 723, picture, 241, &count, &told), 10);
     record[R_CY] = 2;
-    is("4", second_picture(memory, 1024, record, 43, wiring, 0, picture, 9, &count, &told), 4);
-    is("4 by length", second_picture(memory, 1024, record, 42, wiring, 0, picture, 9, &count, &told), 4);
+    is("4", second_picture(memory, 1024, record, 45, wiring, 0, picture, 9, &count, &told), 4);
+    is("4 by length", second_picture(memory, 1024, record, 44, wiring, 0, picture, 9, &count, &told), 4);
     memory[0x005] = 1;
-    is("3", second_picture(memory, 1024, record, 42, wiring, 0, picture, 9, &count, &told), 3);
-    is("2", second_picture(memory, 1025, record, 42, wiring, 0, picture, 9, &count, &told), 2);
+    is("3", second_picture(memory, 1024, record, 44, wiring, 0, picture, 9, &count, &told), 3);
+    is("2", second_picture(memory, 1025, record, 44, wiring, 0, picture, 9, &count, &told), 2);
     is("length", (long long)told, 1025);
 }
 
@@ -2525,7 +2868,7 @@ static void many_programs(void)
 {
     enum { PROGRAMS = 300, EVENTS = 400 };
     uint8_t script[EVENTS];
-    uint8_t memory_then[1024], record_then[43];
+    uint8_t memory_then[1024], record_then[45];
     unsigned differ = 0, not_lendable = 0, wrong_count = 0, wrong_reason = 0;
 
     from("01, a run is its events in order");
@@ -2553,6 +2896,8 @@ static void many_programs(void)
         set_two(R_PC, any(4096));
         record[R_T0_COUNTER] = 250;
         set_two(R_WATCHDOG, 1 + any(40));
+        if (any(2))
+            set_frozen((uint8_t)any(16));
         memcpy(memory_then, memory, sizeof memory);
         memcpy(record_then, record, sizeof record);
         for (int at = 0; at < EVENTS; at++) {
@@ -2570,7 +2915,7 @@ static void many_programs(void)
                 break;
             }
         }
-        uint8_t memory_by_steps[1024], record_by_steps[43];
+        uint8_t memory_by_steps[1024], record_by_steps[45];
         memcpy(memory_by_steps, memory, sizeof memory);
         memcpy(record_by_steps, record, sizeof record);
         memcpy(memory, memory_then, sizeof memory);
@@ -2606,6 +2951,7 @@ int main(void)
     rom_read();
     edges();
     sound();
+    halves();
     runs();
     memory_refusals();
     record_refusals();
