@@ -37,7 +37,7 @@ static void orders(void)
     enum { PROGRAM_LEN = 1, MEMORY_LEN = 2, CELL = 4, RECORD_LEN = 8, FIELD = 16, EVENT = 32, UNLISTED = 64, SETS = 128 };
     static const uint16_t program_lengths[] = {0, 1, 2, 4096, 8190, 8191, 8193, 8194, 16384};
     static const uint16_t memory_lengths[] = {0, 1, 512, 1023, 1025, 2048};
-    static const uint16_t record_lengths[] = {0, 1, 36, 37, 38, 42, 44, 86};
+    static const uint16_t record_lengths[] = {0, 1, 36, 37, 38, 42, 43, 44, 46, 90};
     enum { REPEATS = 12, LENGTH = 9 };
 
     for (unsigned set = 0; set < SETS; set++)
@@ -258,6 +258,20 @@ static void sound_rules(void)
     }
 }
 
+/* The frozen nibble of Timer0's counter and its mark (02, P2). */
+static void frozen_rules(void)
+{
+    struct machine machine;
+
+    for (unsigned mark = 0; mark < 256; mark++)
+        for (unsigned nibble = 0; nibble < 256; nibble += mark < 3 || nibble < 18 ? 1 : 1 + any(60)) {
+            plain_machine(&machine);
+            machine.record[R_FROZEN] = (uint8_t)nibble;
+            machine.record[R_FROZEN_MARK] = (uint8_t)mark;
+            judge("frozen nibble and mark", &machine, mark == 0 ? nibble == 0 : mark == 1 && nibble < 16);
+        }
+}
+
 /* Every event byte, alone and at every place of a script. */
 static void event_bytes(void)
 {
@@ -315,7 +329,7 @@ static void spoiled_machines(void)
 static void fresh_machines(void)
 {
     static const uint16_t memory_lengths[] = {0, 1, 1023, 1025, 8192};
-    static const uint16_t record_lengths[] = {0, 1, 36, 37, 38, 42, 44, 1024};
+    static const uint16_t record_lengths[] = {0, 1, 36, 37, 38, 42, 43, 44, 46, 1024};
     struct machine machine;
 
     for (unsigned set = 0; set < 8; set++)
@@ -370,6 +384,7 @@ void compare_refusals(void)
     every_byte();
     record_rules();
     sound_rules();
+    frozen_rules();
     progress("refusals: the record's rules at their bounds; failed so far %lu", failed);
     fresh_machines();
     spoiled_machines();

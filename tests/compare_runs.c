@@ -14,6 +14,7 @@
 
 enum { SCRIPT_LEAST = 200, SCRIPT_MOST = 1600, STEPPED_ONE_IN = 16, MACHINES_ON_ONE_PROGRAM = 8 };
 enum { EXTERNAL = 8, TIMER0 = 4, BASE = 2, PORT = 1 };
+enum { REACHES = 2, CODES = 32 };
 
 static uint8_t program[PROGRAM_BYTES];
 
@@ -28,6 +29,12 @@ enum happening {
     TURNED = RAN + CHANNELS, SET = TURNED + CHANNELS, SET_BY_OCTAVE = SET + CHANNELS,
     HELD_OFF = SET_BY_OCTAVE + CHANNELS, HELD_SILENT = HELD_OFF + CHANNELS,
     HELD_BY_MODE = HELD_SILENT + CHANNELS, RAN_IN_C1M,
+    HIGH_READ, /* what follows is by the cell's name, then through $00F */
+    HIGH_READ_AGAIN = HIGH_READ + REACHES, LOW_READ_LIVE = HIGH_READ_AGAIN + REACHES,
+    LOW_READ_FROZEN = LOW_READ_LIVE + REACHES, LOW_READ_GONE_ON = LOW_READ_FROZEN + REACHES,
+    LOW_READ_0 = LOW_READ_GONE_ON + REACHES, RELEASED = LOW_READ_0 + REACHES,
+    RELEASED_BY_PIN_RESET = RELEASED + REACHES, RELEASED_BY_WATCHDOG, KEPT_OVER_002, KEPT_OVER_004, KEPT_OVER_OVERFLOW,
+    KEPT_OVER_INTERRUPT, KEPT_IN_HALT, KEPT_IN_STOP,
     STOPPED_AT_ADDRESS, BEFORE_UNLISTED, AT_SCRIPT_END, HAPPENINGS
 };
 
@@ -42,24 +49,26 @@ static const char *const happening_name[HAPPENINGS] = {
     "sound clocks of channel 2 that runs", "turns of channel 1", "turns of channel 2", "counts of channel 1 set anew",
     "counts of channel 2 set anew", "  of channel 1 by the octave bit", "  of channel 2 by the octave bit",
     "channel 1 held: disabled", "channel 2 held: disabled", "channel 1 held: value 0", "channel 2 held: value 0",
-    "channel 2 held: C1M or C2M", "channel 1 runs with C1M", "runs stopped at an address",
+    "channel 2 held: C1M or C2M", "channel 1 runs with C1M", "reads of $005", "reads of $005 through $00F",
+    "  one frozen already", "  one frozen already, through $00F", "reads of $004, live",
+    "reads of $004, live, through $00F", "reads of $004, frozen", "reads of $004, frozen, through $00F",
+    "  the counter gone on", "  the counter gone on, through $00F", "  as 0, the counter gone on",
+    "  as 0, the same, through $00F", "released by a write of $005", "released by a write through $00F",
+    "released by the reset pin", "released by the watchdog's reset", "frozen over a write of $002",
+    "frozen over a write of $004 alone", "frozen over an overflow", "frozen over an interrupt",
+    "frozen over a cycle asleep in HALT", "frozen over a cycle asleep in STOP", "runs stopped at an address",
     "runs stopped by an unlisted word", "runs ended by the script"};
 
 static uint64_t happened[HAPPENINGS];
-static uint64_t executed_code[32]; /* by bits 15-11 */
-
-static bool names_pointer(uint16_t word)
-{
-    if (word < 0x4000)
-        return (word & 0x3FF) == 0x00F;
-    return (word < 0x8000 && (word & 0x7F) == 0x0F) || word == 0xCB0F || word == 0xCD0F;
-}
+static uint64_t executed_code[CODES]; /* by bits 15-11 */
+static uint64_t halves_read_by[CODES]; /* reads of $004 and $005 */
 
 /* What the counting needs of the machine before an event. */
 struct glimpse {
     uint16_t pc, watchdog, oldest;
     uint8_t mode, pending, timer0_counter, options;
     uint8_t enabled, requested;
+    uint8_t frozen, frozen_mark;
     uint16_t pointer;
     struct second_tone tone[CHANNELS];
 };
@@ -67,9 +76,32 @@ struct glimpse {
 static struct glimpse glimpse_of(const struct second_machine *m)
 {
     return (struct glimpse){m->pc, m->watchdog, m->stack[7], m->mode, m->pending, m->timer0_counter, m->options,
-                            m->cell[0], m->cell[1],
-                            (uint16_t)(128u * m->cell[0x12] + 16u * m->cell[0x11] + m->cell[0x10]),
+                            m->cell[0], m->cell[1], m->frozen, m->frozen_mark, (uint16_t)pointer_of(m->cell),
                             {m->tone[0], m->tone[1]}};
+}
+
+/* What a word does with the halves of Timer0's counter, and with a nibble that is frozen. */
+static void count_halves(const struct glimpse *before, unsigned code, struct touch touch)
+{
+    bool through = touch.through_pointer, frozen = before->frozen_mark;
+    bool gone_on = frozen && before->frozen != before->timer0_counter % 16;
+
+    if (touch.reads && touch.cell == 0x005) {
+        happened[HIGH_READ + through]++;
+        happened[HIGH_READ_AGAIN + through] += frozen;
+        halves_read_by[code]++;
+    }
+    if (touch.reads && touch.cell == 0x004) {
+        happened[(frozen ? LOW_READ_FROZEN : LOW_READ_LIVE) + through]++;
+        happened[LOW_READ_GONE_ON + through] += gone_on;
+        happened[LOW_READ_0 + through] += gone_on && before->frozen == 0;
+        halves_read_by[code]++;
+    }
+    if (touch.writes && frozen) {
+        happened[RELEASED + through] += touch.cell == 0x005;
+        happened[KEPT_OVER_002] += touch.cell == 0x002;
+        happened[KEPT_OVER_004] += touch.cell == 0x004 && !touch.reads;
+    }
 }
 
 static void count_cycle(const struct glimpse *before, const struct second_machine *now)
@@ -80,6 +112,7 @@ static void count_cycle(const struct glimpse *before, const struct second_machin
     happened[CYCLES]++;
     if (idle) {
         happened[ASLEEP_STOP]++;
+        happened[KEPT_IN_STOP] += now->frozen_mark;
         return;
     }
     happened[READ_LANDED] += before->pending;
@@ -92,17 +125,21 @@ static void count_cycle(const struct glimpse *before, const struct second_machin
         happened[WOKEN_STOP] += before->mode == SECOND_STOP;
         happened[INTERRUPT_EXTERNAL + now->pc - 1]++;
         happened[ENTRY_DROPPED] += before->oldest != 0;
+        happened[KEPT_OVER_INTERRUPT] += now->frozen_mark;
     } else if (before->mode == SECOND_HALT) {
         happened[ASLEEP_HALT]++;
+        happened[KEPT_IN_HALT] += now->frozen_mark;
     } else {
         uint16_t word = (uint16_t)two(program + 2 * before->pc);
+        struct touch touch = touch_of(word, before->pointer);
 
         happened[AWAKE]++;
         executed_code[word >> 11]++;
         happened[ENTRY_DROPPED] += word >> 11 == 24 && before->oldest != 0;
-        happened[THROUGH_POINTER] += names_pointer(word);
-        happened[POINTER_AT_REGISTER] += names_pointer(word) && before->pointer < 0x020;
+        happened[THROUGH_POINTER] += touch.through_pointer;
+        happened[POINTER_AT_REGISTER] += touch.through_pointer && touch.cell < 0x020;
         happened[WATCHDOG_RESTARTED] += now->watchdog > before->watchdog;
+        count_halves(before, word >> 11, touch);
     }
 }
 
@@ -143,16 +180,21 @@ static void count_sound(const struct glimpse *before, const struct second_machin
 static void count_event(const struct glimpse *before, const struct second_machine *now, uint8_t event)
 {
     unsigned fresh_requests = now->cell[1] & ~before->requested;
+    bool watchdog_reset = event == WATCHDOG_PULSE && (before->options & 1) && before->watchdog == 1;
+    bool overflow = (fresh_requests & TIMER0) && before->timer0_counter == 255;
 
     happened[DONE_EVENTS]++;
     if (event == CYCLE)
         count_cycle(before, now);
     else if (event == SOUND_CLOCK)
         count_sound(before, now);
-    happened[WATCHDOG_RESET] += event == WATCHDOG_PULSE && (before->options & 1) && before->watchdog == 1;
+    happened[WATCHDOG_RESET] += watchdog_reset;
+    happened[RELEASED_BY_WATCHDOG] += watchdog_reset && before->frozen_mark;
     happened[PIN_RESET] += event == RESET_PIN;
+    happened[RELEASED_BY_PIN_RESET] += event == RESET_PIN && before->frozen_mark;
     happened[REQUEST_EXTERNAL] += event >= PINS_A && (fresh_requests & EXTERNAL);
-    happened[REQUEST_TIMER0] += (fresh_requests & TIMER0) && before->timer0_counter == 255;
+    happened[REQUEST_TIMER0] += overflow;
+    happened[KEPT_OVER_OVERFLOW] += overflow && before->frozen_mark && now->frozen_mark;
     happened[REQUEST_BASE] += event == BASE_PULSE && (fresh_requests & BASE);
     happened[REQUEST_PORT] += event >= PINS_A && (fresh_requests & PORT);
     happened[PIN_COUNTED] += event >= PINS_A && now->timer0_counter != before->timer0_counter;
@@ -280,10 +322,16 @@ static void one_machine(uint64_t number)
     check(memcmp(program, program_before, sizeof program) == 0, "machine %" PRIu64 ": its program is changed", number);
 }
 
+/* The codes that have a form that reads: all that name a cell but LDI; DAA with DAS among them. */
+static bool code_reads(unsigned code)
+{
+    return code < 15 || code == 25;
+}
+
 void compare_runs(const struct plan *plan)
 {
     uint64_t next_line = plan->events / 4, machines = 0;
-    unsigned least = 0;
+    unsigned least = 0, least_reading = 0;
 
     while (happened[DONE_EVENTS] < plan->events) {
         one_machine(machines++);
@@ -297,9 +345,16 @@ void compare_runs(const struct plan *plan)
         printf("  %-36s %12" PRIu64 "\n", happening_name[what], happened[what]);
         check(happened[what] > 0, "no %s in all these runs", happening_name[what]);
     }
-    for (unsigned code = 0; code < 32; code++)
+    for (unsigned code = 0; code < CODES; code++) {
         if (executed_code[code] < executed_code[least])
             least = code;
+        check((halves_read_by[code] > 0) == code_reads(code), "code %u read $004 and $005 %" PRIu64 " times", code,
+              halves_read_by[code]);
+        if (code_reads(code) && halves_read_by[code] < halves_read_by[least_reading])
+            least_reading = code;
+    }
     progress("  instructions of the rarest code (%u): %" PRIu64, least, executed_code[least]);
+    progress("  reads of $004 and $005 by the code that reads them least (%u): %" PRIu64, least_reading,
+             halves_read_by[least_reading]);
     check(executed_code[least] > 0, "no instruction of code %u in all these runs", least);
 }

@@ -81,7 +81,17 @@ static void reads(unsigned cell)
 
     if (through)
         points_at(cell);
-    executes(any(2) ? any(8) << 11 | named : immediate(any(2) ? ADI : SBI, any(16), named));
+    switch (any(4)) {
+    case 0:
+        executes((2 * any(7) + 1) << 10 | named); /* a form that also writes */
+        break;
+    case 1:
+        executes(immediate(any(2) ? ADI : SBI, any(16), named));
+        break;
+    default:
+        executes(any(8) << 11 | named);
+        break;
+    }
 }
 
 static unsigned one_of(unsigned bits)
@@ -238,11 +248,24 @@ static void put_word_end(enum way way)
     case BY_WRITE_002: case BY_WRITE_003: case BY_WRITE_004: case BY_WRITE_005:
         writes(0x002 + (way - BY_WRITE_002), any(16));
         break;
+    case BY_RELEASING_005:
+        set_frozen(&drawn.start, true);
+        writes(0x005, any(16));
+        break;
     case BY_WRITE_01E:
         writes(0x01E, any(16));
         break;
     case BY_READ_004: case BY_READ_005:
+        set_frozen(&drawn.start, false);
         reads(0x004 + (way - BY_READ_004));
+        break;
+    case BY_FROZEN_READ_004: case BY_FROZEN_READ_005:
+        set_frozen(&drawn.start, true);
+        reads(0x004 + (way - BY_FROZEN_READ_004));
+        break;
+    case BY_BOTH_HALVES:
+        executes(any(8) << 11 | 0x005);
+        executes(any(8) << 11 | 0x004);
         break;
     case BY_READ_01E:
         reads(0x01E);

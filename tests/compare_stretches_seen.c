@@ -45,8 +45,11 @@ static const struct {
     [BY_ROM_READ_AND_HALT] = {"write to $01A and HALT", AWAKE_ONLY},
     [BY_WRITE_002] = {"write to $002", AWAKE_ONLY}, [BY_WRITE_003] = {"write to $003", AWAKE_ONLY},
     [BY_WRITE_004] = {"write to $004", AWAKE_ONLY}, [BY_WRITE_005] = {"write to $005", AWAKE_ONLY},
-    [BY_WRITE_01E] = {"write to $01E", AWAKE_ONLY}, [BY_READ_004] = {"read of $004", AWAKE_ONLY},
-    [BY_READ_005] = {"read of $005", AWAKE_ONLY}, [BY_READ_01E] = {"read of $01E", AWAKE_ONLY},
+    [BY_RELEASING_005] = {"write to $005, a nibble frozen", AWAKE_ONLY},
+    [BY_WRITE_01E] = {"write to $01E", AWAKE_ONLY}, [BY_READ_004] = {"read of $004, live", AWAKE_ONLY},
+    [BY_READ_005] = {"read of $005", AWAKE_ONLY}, [BY_FROZEN_READ_004] = {"read of $004, frozen", AWAKE_ONLY},
+    [BY_FROZEN_READ_005] = {"read of $005, a nibble frozen already", AWAKE_ONLY},
+    [BY_BOTH_HALVES] = {"read of $005 and then of $004", AWAKE_ONLY}, [BY_READ_01E] = {"read of $01E", AWAKE_ONLY},
     [BY_OTHER_CELL] = {"sound cell, or none", AWAKE_ONLY},
     [BY_DECIMAL_ON_REGISTER] = {"DAA or DAS on a register", AWAKE_ONLY},
     [BY_END] = {"script's end", BOTH}, [END_BEFORE_OVERFLOW] = {"script's end, one before the overflow", BOTH},
@@ -97,6 +100,7 @@ void tell_ways(void)
 /* Sound clocks are not counted among the events. */
 static uint64_t at, quiet;                  /* this event, and the quiet cycles right before it */
 static uint64_t long_ended_at, overflow_at; /* the event behind the one that ended a long stretch, or behind its overflow */
+static uint64_t frozen_at;                  /* the event behind the last read of $005 */
 static uint64_t sounded;                    /* sound clocks so far */
 static bool ended, begun_asleep;
 
@@ -160,37 +164,22 @@ static void see_pulse(const struct second_machine *before, const struct second_m
         mark(!due(before) && due(now) ? DUE_BY_BASE : BY_BASE_PULSE, asleep);
 }
 
-/* What a word does with a cell, $00F taken for the cell that it stands for. */
-struct touch {
-    unsigned cell;
-    bool reads, writes;
-};
-
-static struct touch touch_of(const struct second_machine *m, uint16_t word)
-{
-    unsigned code = word >> 11;
-    struct touch touch = {word & (code < 8 ? 0x3FF : 0x7F), true, true};
-
-    if (code < 8)
-        touch.writes = word & 0x400;
-    else
-        touch.writes = code != 8 && code != 10;
-    touch.reads = !(code == 7 && touch.writes) && code != 15;
-    if (touch.cell == 0x00F)
-        touch.cell = 128u * m->cell[0x12] + 16u * m->cell[0x11] + m->cell[0x10];
-    return touch;
-}
-
-static void see_read(unsigned cell)
+static void see_read(unsigned cell, bool frozen)
 {
     if (cell == 0x004 || cell == 0x005)
-        mark(BY_READ_004 + (cell - 0x004), false);
+        mark((frozen ? BY_FROZEN_READ_004 : BY_READ_004) + (cell - 0x004), false);
     else if (cell == 0x01E)
         mark(BY_READ_01E, false);
+    if (cell == 0x004 && frozen && frozen_at == at)
+        mark_late(BY_BOTH_HALVES, false);
+    if (cell == 0x005)
+        frozen_at = at + 1;
 }
 
-static void see_write(unsigned cell, bool now_due)
+static void see_write(unsigned cell, bool frozen, bool now_due)
 {
+    if (cell == 0x005 && frozen)
+        mark(BY_RELEASING_005, false);
     if (cell <= 0x001 && now_due)
         mark(DUE_BY_000 + cell, false);
     else if (0x002 <= cell && cell <= 0x005)
@@ -221,17 +210,16 @@ static enum way stop_by(uint16_t word, bool goes_on)
 
 static void see_word(const struct second_machine *before, const struct second_machine *now, uint16_t word)
 {
+    struct touch touch = touch_of(word, pointer_of(before->cell));
     unsigned code = word >> 11;
 
     if (code == 27)
         mark(word == HALT_WORD ? BY_HALT : BY_STOP, false);
-    if (code < 16 || code == 25) {
-        struct touch touch = touch_of(before, word);
-
+    if (touch.reads || touch.writes) {
         if (touch.reads)
-            see_read(touch.cell);
+            see_read(touch.cell, before->frozen_mark);
         if (touch.writes)
-            see_write(touch.cell, due(now));
+            see_write(touch.cell, before->frozen_mark, due(now));
         if (touch.cell >= 0x020 && !is_askable(touch.cell))
             mark(BY_OTHER_CELL, false);
         if (touch.cell < 0x020 && code == 25)
@@ -273,7 +261,7 @@ static void see_cycle(const struct second_machine *before, const struct second_m
 void watch_begins(void)
 {
     at = quiet = sounded = 0;
-    long_ended_at = overflow_at = NEVER;
+    long_ended_at = overflow_at = frozen_at = NEVER;
     begun_asleep = drawn.start.record[R_MODE] == IN_HALT;
 }
 

@@ -68,11 +68,7 @@ void compare_words(const struct plan *plan)
     check(unlisted == UNLISTED_WORDS, "%lu words are unlisted", unlisted);
     check(0x10000 - unlisted == LISTED, "%lu words are listed", 0x10000 - unlisted);
     for (uint32_t word = 0; word <= 0xFFFF; word++) {
-        bool names_pointer = word < 0x4000 ? (word & 0x3FF) == 0x00F
-                             : word < 0x8000 ? (word & 0x7F) == 0x0F
-                                             : word == 0xCB0F || word == 0xCD0F;
-
-        if (!names_pointer)
+        if (!touch_of((uint16_t)word, 0).through_pointer)
             continue;
         for (unsigned pointer = 0; pointer < MEMORY_BYTES; pointer += pointer < 0x24 ? 1 : 1 + any(24)) {
             ready(&machine, true);

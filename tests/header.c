@@ -11,7 +11,9 @@ _Static_assert(GALHOVEIA_RECORD_PENDING_ADDRESS + 2 == GALHOVEIA_RECORD_COUNT_1,
 _Static_assert(GALHOVEIA_RECORD_COUNT_1 + 2 == GALHOVEIA_RECORD_OUTPUT_1, "the first channel's output");
 _Static_assert(GALHOVEIA_RECORD_OUTPUT_1 + 1 == GALHOVEIA_RECORD_COUNT_2, "the second channel's place");
 _Static_assert(GALHOVEIA_RECORD_COUNT_2 + 2 == GALHOVEIA_RECORD_OUTPUT_2, "the second channel's output");
-_Static_assert(GALHOVEIA_RECORD_OUTPUT_2 + 1 == GALHOVEIA_RECORD_BYTES, "the record's end");
+_Static_assert(GALHOVEIA_RECORD_OUTPUT_2 + 1 == GALHOVEIA_RECORD_FROZEN, "the frozen nibble's place");
+_Static_assert(GALHOVEIA_RECORD_FROZEN + 1 == GALHOVEIA_RECORD_FROZEN_MARK, "its mark");
+_Static_assert(GALHOVEIA_RECORD_FROZEN_MARK + 1 == GALHOVEIA_RECORD_BYTES, "the record's end");
 _Static_assert(GALHOVEIA_BOOK_BYTES_MOST == 16 + GALHOVEIA_PROGRAM_BYTES
                + GALHOVEIA_ELEMENTS_MOST * GALHOVEIA_ELEMENT_BYTES + GALHOVEIA_LEVEL_BYTES, "the longest book");
 

@@ -1,5 +1,6 @@
 /* Well-formed machines, programs and scripts made at random, drawn so that the rare things happen often: interrupts,
-   wakes, pending reads, overflows, watchdog resets, tones that turn, stores through the pointer at registers. */
+   wakes, pending reads, overflows, watchdog resets, tones that turn, Timer0's counter read half by half, stores through
+   the pointer at registers. */
 #include "support.h"
 
 #include <string.h>
@@ -82,6 +83,35 @@ bool is_known(unsigned event)
     return event <= RESET_PIN || event == SOUND_CLOCK || (event >= PINS_A && event <= PINS_D + 15);
 }
 
+/* ---- What a word does with a cell (01, Instruction words; One instruction) ---- */
+
+/* By bits 15-11. */
+enum {
+    LDA_CODE = 7, ADI_CODE = 8, ADIM_CODE = 9, SBI_CODE = 10, ORIM_CODE = 13, ANDIM_CODE = 14, LDI_CODE = 15,
+    BRANCH_CODE = 16, DECIMAL_CODE = 25
+};
+
+unsigned pointer_of(const uint8_t memory[MEMORY_BYTES])
+{
+    return 128u * memory[0x012] + 16u * memory[0x011] + memory[0x010];
+}
+
+struct touch touch_of(uint16_t word, unsigned pointer)
+{
+    unsigned code = word >> 11, named = word & (code < ADI_CODE ? 0x3FF : 0x7F);
+    bool through_pointer = named == 0x00F;
+    struct touch touch = {through_pointer ? pointer : named, through_pointer, true, true};
+
+    if (is_unlisted(word) || (code >= BRANCH_CODE && code != DECIMAL_CODE))
+        return (struct touch){0, false, false, false};
+    if (code < ADI_CODE)
+        touch.writes = word & 0x400;
+    else
+        touch.writes = code != ADI_CODE && code != SBI_CODE;
+    touch.reads = !(code == LDA_CODE && touch.writes) && code != LDI_CODE;
+    return touch;
+}
+
 /* ---- Machines ---- */
 
 /* Often close below the end, so that a count soon comes round. */
@@ -95,8 +125,8 @@ static unsigned near_end(unsigned below)
 static const uint16_t pointed_at[] = {
     0x000, 0x001, 0x002, 0x003, 0x004, 0x005, 0x006, 0x007, 0x008, 0x009, 0x00A, 0x00B, 0x00C, 0x00D, 0x00E, 0x00F,
     0x010, 0x011, 0x012, 0x013, 0x014, 0x015, 0x016, 0x017, 0x018, 0x019, 0x01A, 0x01B, 0x01C, 0x01D, 0x01E, 0x01F,
-    0x01A, 0x01E, 0x005, 0x002, 0x003, 0x000, 0x001, 0x020, 0x16F, 0x170, 0x300, 0x348, 0x349, 0x358, 0x36D, 0x36E,
-    0x370, 0x377, 0x378, 0x3FF};
+    0x01A, 0x01E, 0x004, 0x005, 0x004, 0x005, 0x002, 0x003, 0x000, 0x001, 0x020, 0x16F, 0x170, 0x300, 0x348, 0x349,
+    0x358, 0x36D, 0x36E, 0x370, 0x377, 0x378, 0x3FF};
 
 /* Often a tone with a short period, sometimes none at all. */
 static unsigned any_tone(void)
@@ -129,6 +159,12 @@ static void random_sound(struct machine *machine)
         set_two(fields + R_SOUND_COUNT, any(2) ? any(4) : any(SOUND_COUNTS));
         fields[R_SOUND_OUTPUT] = (uint8_t)any(2);
     }
+}
+
+void set_frozen(struct machine *machine, bool frozen)
+{
+    machine->record[R_FROZEN] = (uint8_t)(frozen && any(4) ? any(16) : 0);
+    machine->record[R_FROZEN_MARK] = frozen;
 }
 
 void random_machine(struct machine *machine)
@@ -184,6 +220,7 @@ void random_machine(struct machine *machine)
         set_two(record + R_PENDING_ADDRESS, any(4096));
     }
     random_sound(machine);
+    set_frozen(machine, any(2));
 }
 
 void nudge(struct machine *machine)
@@ -203,24 +240,26 @@ void nudge(struct machine *machine)
             memory[control] = 0;
     if (any(4) == 0)
         random_sound(machine);
+    if (any(4) == 0)
+        set_frozen(machine, any(2));
 }
 
 /* ---- Programs ---- */
 
-/* What a word may be about, and how many of a hundred words each mix gives to it. */
+/* What a word may be about, and how much of its words each mix gives to it. */
 enum topic {
     BANKED, ON_REGISTERS, IMMEDIATE, POINTER_SET, POINTER_USE, BRANCH, CALLING, RETURNING, JUMPING, TABLE_JUMP, DECIMAL,
-    SLEEP_HALT, SLEEP_STOP, PLAIN, ENABLE, REQUEST, READ_ROM, TIMERS, WATCHDOG, ON_SOUND, WHATEVER, TOPICS
+    SLEEP_HALT, SLEEP_STOP, PLAIN, ENABLE, REQUEST, READ_ROM, TIMERS, HALVES, WATCHDOG, ON_SOUND, WHATEVER, TOPICS
 };
 
 static const uint8_t weight[MIXES][TOPICS] = {
     /* the topics in their order */
-    [MIX_BUSY]   = {16, 10, 12, 6, 10, 8, 3, 3, 2, 1, 4, 1, 1, 5, 5, 5, 4, 3, 2, 2, 0},
-    [MIX_TIMERS] = {8, 8, 8, 4, 6, 6, 2, 4, 2, 0, 2, 2, 0, 6, 10, 8, 2, 26, 4, 2, 0},
-    [MIX_ASLEEP] = {8, 6, 8, 4, 4, 6, 2, 4, 2, 0, 2, 10, 10, 4, 18, 8, 2, 4, 2, 2, 0},
-    [MIX_READS]  = {8, 8, 8, 8, 12, 4, 2, 2, 2, 0, 2, 1, 1, 4, 4, 3, 30, 2, 1, 2, 0},
-    [MIX_NESTED] = {8, 6, 8, 4, 6, 8, 18, 16, 4, 3, 2, 1, 0, 4, 6, 5, 2, 2, 0, 2, 0},
-    [MIX_ANY]    = {10, 5, 10, 5, 5, 5, 5, 5, 2, 1, 2, 1, 1, 3, 5, 3, 5, 3, 2, 2, 20},
+    [MIX_BUSY]   = {16, 10, 12, 6, 10, 8, 3, 3, 2, 1, 4, 1, 1, 5, 5, 5, 4, 3, 5, 2, 2, 0},
+    [MIX_TIMERS] = {8, 8, 8, 4, 6, 6, 2, 4, 2, 0, 2, 2, 0, 6, 10, 8, 2, 26, 20, 4, 2, 0},
+    [MIX_ASLEEP] = {8, 6, 8, 4, 4, 6, 2, 4, 2, 0, 2, 10, 10, 4, 18, 8, 2, 4, 5, 2, 2, 0},
+    [MIX_READS]  = {8, 8, 8, 8, 12, 4, 2, 2, 2, 0, 2, 1, 1, 4, 4, 3, 30, 2, 5, 1, 2, 0},
+    [MIX_NESTED] = {8, 6, 8, 4, 6, 8, 18, 16, 4, 3, 2, 1, 0, 4, 6, 5, 2, 2, 5, 0, 2, 0},
+    [MIX_ANY]    = {10, 5, 10, 5, 5, 5, 5, 5, 2, 1, 2, 1, 1, 3, 5, 3, 5, 3, 5, 2, 2, 20},
 };
 
 static enum topic any_topic(enum mix mix)
@@ -246,7 +285,28 @@ static unsigned immediate(unsigned code, unsigned number, unsigned cell)
     return code << 11 | number << 7 | cell;
 }
 
-enum { ADIM_CODE = 9, ORIM_CODE = 13, ANDIM_CODE = 14, LDI_CODE = 15 };
+/* A form that reads the cell and does not write it. */
+static unsigned reading(unsigned cell)
+{
+    return any(2) ? any(8) << 11 | cell : immediate(any(2) ? ADI_CODE : SBI_CODE, any(16), cell);
+}
+
+/* Timer0's halves, more often read than written. */
+static unsigned on_halves(void)
+{
+    unsigned half = 0x04 + any(2);
+
+    switch (any(8)) {
+    case 0:
+        return banked(half);
+    case 1:
+        return immediate(8 + any(8), any(16), half);
+    case 2:
+        return (any(2) ? 0xCB00u : 0xCD00u) + half;
+    default:
+        return reading(half);
+    }
+}
 
 static unsigned any_word(enum mix mix)
 {
@@ -308,12 +368,34 @@ static unsigned any_word(enum mix mix)
     case TIMERS:
         return any(3) ? immediate(LDI_CODE, any(16), timer_registers[any(6)])
                       : banked(timer_registers[any(6)]);
+    case HALVES:
+        return on_halves();
     case WATCHDOG:
         return any(2) ? immediate(LDI_CODE, 4 + any(4), 0x1E) : banked(0x1E);
     case ON_SOUND:
         return banked(0x370 + any(8));
     default:
         return any(0x10000);
+    }
+}
+
+/* Timer0's halves read one after the other, the high one first, each by its name or through the pointer, at many places
+   of the program. */
+static void put_halves(uint8_t program[PROGRAM_BYTES])
+{
+    enum { FIRST = 8, APART = 24, SPREAD = 64, LONGEST = 12, BETWEEN = 3 };
+
+    for (unsigned start = FIRST + any(SPREAD); start + LONGEST < WORDS; start += APART + any(SPREAD)) {
+        uint8_t *to = program + 2 * start;
+
+        for (unsigned half = 0x05; half >= 0x04; half--, to += 2 * any(BETWEEN)) {
+            bool through_pointer = any(3) == 0;
+
+            for (unsigned digit = 0; through_pointer && digit < 3; digit++, to += 2)
+                set_two(to, immediate(LDI_CODE, digit == 0 ? half : 0, 0x10 + digit));
+            set_two(to, reading(through_pointer ? 0x0F : half));
+            to += 2;
+        }
     }
 }
 
@@ -330,6 +412,7 @@ void random_program(uint8_t program[PROGRAM_BYTES], enum mix mix)
         if ((word == 0xD800 || word == 0xDC00) && address > 4 && any(16))
             set_two(program + 2 * address - 2, immediate(LDI_CODE, word == 0xD800 ? 1 + any(15) : 9, 0x00));
     }
+    put_halves(program);
     if (any(2))
         for (unsigned vector = 1; vector <= 4; vector++)
             set_two(program + 2 * vector, any(3) ? 0xD400 : 0xE000 + any(WORDS));

@@ -7,13 +7,14 @@
 #include <stddef.h>
 #include <stdint.h>
 
-enum { PROGRAM_BYTES = 8192, MEMORY_BYTES = 1024, RECORD_BYTES = 43, WORDS = 4096, NO_STOP = 4096 };
+enum { PROGRAM_BYTES = 8192, MEMORY_BYTES = 1024, RECORD_BYTES = 45, WORDS = 4096, NO_STOP = 4096 };
 
-/* Where each field of the record begins (01, What is lent; 02, P1); channel 2 stands behind channel 1. */
+/* Where each field of the record begins (01, What is lent; 02, P1 and P2); channel 2 stands behind channel 1. */
 enum {
     R_PC = 0, R_AC = 2, R_CY = 3, R_MODE = 4, R_STACK = 5, R_T0_PRESCALER = 21, R_T0_COUNTER = 23, R_T0_LOAD = 24,
     R_BASE_PRESCALER = 25, R_BASE_COUNTER = 26, R_WATCHDOG = 27, R_PINS = 29, R_OPTIONS = 33, R_PENDING = 34,
-    R_PENDING_ADDRESS = 35, R_SOUND_COUNT = 37, R_SOUND_OUTPUT = 39, R_SOUND_BYTES = 3
+    R_PENDING_ADDRESS = 35, R_SOUND_COUNT = 37, R_SOUND_OUTPUT = 39, R_SOUND_BYTES = 3, R_FROZEN = 43,
+    R_FROZEN_MARK = 44
 };
 enum { CHANNELS = 2, SOUND_COUNTS = 1016 };
 enum { RUNNING = 0, IN_HALT = 1, IN_STOP = 2 };
@@ -56,6 +57,19 @@ unsigned ratio_of(uint8_t timer0_mode);
 unsigned base_ratio_of(uint8_t base_mode);
 unsigned period_of(uint8_t watchdog_register);
 bool base_is_on(uint8_t base_mode);
+
+/* What a word does with the cell that it names, which through $00F is the one that the pointer stands at. A word that
+   names none, or is unlisted, does nothing with it. */
+struct touch {
+    unsigned cell;
+    bool through_pointer, reads, writes;
+};
+
+struct touch touch_of(uint16_t word, unsigned pointer);
+unsigned pointer_of(const uint8_t memory[MEMORY_BYTES]);
+
+/* The low nibble of Timer0's counter is frozen, sometimes as 0, or it is not. */
+void set_frozen(struct machine *machine, bool frozen);
 
 /* Any well-formed machine; the registers that make things happen are drawn so that they do. */
 void random_machine(struct machine *machine);
