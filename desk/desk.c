@@ -465,7 +465,7 @@ static enum status work_demo(const struct command *command, int count, char **wo
 static const char *const run_texts[] = {script_help, NULL};
 static const char *const make_texts[] = {program_help, wiring_help, level_help, NULL};
 
-#define STATE_HELP "A state file is the memory (1,024 bytes), then the record (43 bytes).\n"
+#define STATE_HELP "A state file is the memory (1,024 bytes), then the record (45 bytes).\n"
 
 static const struct command commands[] = {
     {"demo", "demo [FOLDER]", "runs the example dispatcher and shows what the desk can do",

@@ -5,7 +5,7 @@
 
      program   8,192 bytes: 4,096 words of 16 bits, high byte first; word n is at bytes 2n and 2n + 1
      memory    1,024 bytes: one nibble of the chip's RAM in each, at the chip's own addresses $000 to $3FF
-     record    43 bytes: the registers that are not in RAM, as listed below
+     record    45 bytes: the registers that are not in RAM, as listed below
      script    any number of bytes: what happens to the chip, one event in each
      book      a file of the records desk: a program, the wiring of a panel, and where the panel keeps its level
 
@@ -54,7 +54,7 @@ extern "C" {
 #define GALHOVEIA_WORDS          4096
 #define GALHOVEIA_PROGRAM_BYTES  8192
 #define GALHOVEIA_MEMORY_BYTES   1024
-#define GALHOVEIA_RECORD_BYTES   43
+#define GALHOVEIA_RECORD_BYTES   45
 #define GALHOVEIA_LEVELS         8    /* stack entries */
 #define GALHOVEIA_LEVEL_BYTES    5    /* a book's level body */
 #define GALHOVEIA_ELEMENT_BYTES  3    /* one element of a book's wiring body */
@@ -68,7 +68,7 @@ enum {
     GALHOVEIA_PROGRAM_LENGTH = 1, /* the program is not 8,192 bytes long; value: the length lent, in bytes */
     GALHOVEIA_MEMORY_LENGTH = 2,  /* the memory is not 1,024 bytes long; value: the length lent */
     GALHOVEIA_MEMORY_CELL = 3,    /* a memory byte has a bit that its cell cannot hold; value: the lowest such address */
-    GALHOVEIA_RECORD = 4,         /* the record is not 43 bytes long, or breaks a rule listed below; value: 0 */
+    GALHOVEIA_RECORD = 4,         /* the record is not 45 bytes long, or breaks a rule listed below; value: 0 */
     GALHOVEIA_UNKNOWN_EVENT = 5,  /* an event byte means nothing; value: the first such place, counted from 0 */
     GALHOVEIA_UNLISTED_WORD = 6,  /* a cycle would execute a word that is no instruction; value: its program address */
     GALHOVEIA_ROOM = 7,           /* the area for the result is too small; value: the bytes needed */
@@ -108,7 +108,10 @@ enum {
                                               over; 0: as many as its registers tell at the next clock */
     GALHOVEIA_RECORD_OUTPUT_1 = 39,        /* 0 or 1: what channel 1 puts out */
     GALHOVEIA_RECORD_COUNT_2 = 40,         /* 2 bytes: the same of channel 2 */
-    GALHOVEIA_RECORD_OUTPUT_2 = 42
+    GALHOVEIA_RECORD_OUTPUT_2 = 42,
+    GALHOVEIA_RECORD_FROZEN = 43,          /* 0 to 15: the low nibble of Timer0's counter as it was frozen; 0 when none
+                                              is frozen */
+    GALHOVEIA_RECORD_FROZEN_MARK = 44      /* 0 or 1: a nibble is frozen */
 };
 
 enum { GALHOVEIA_RUNNING = 0, GALHOVEIA_HALT = 1, GALHOVEIA_STOP = 2 };
@@ -132,6 +135,12 @@ enum {
    channel that does not run keeps both, and so does every channel in STOP. The data sheet's table gives N, 1 to 127, by
    the seven bits: those of channel 1 are $372 bits 2-0 and $371, its octave bit is $372 bit 3; those of channel 2 are
    $376 bits 2-0 and $375, its octave bit is $376 bit 3. */
+
+/* Timer0's counter is read in two halves. A read of $005 gives the high nibble and freezes the low one as it stands
+   then, also where one is frozen already; the next read of $004 gives the frozen nibble and releases it, so that $005
+   and then $004 give the halves of one count. Where none is frozen, $004 reads the counter as it stands. Every
+   instruction that reads the cell does so, by its name or through $00F, one that then writes it too. A write to $005
+   and both resets also release; nothing else does. */
 
 /* Why a run stopped. */
 enum { GALHOVEIA_AT_ADDRESS = 0, GALHOVEIA_AT_UNLISTED = 1, GALHOVEIA_AT_END = 2 };

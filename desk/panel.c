@@ -8,11 +8,13 @@
 #include <stdlib.h>
 #include <string.h>
 
-/* Versions that had no sound wrote states with a record of 37 bytes. */
-enum {
-    STATE_BYTES = GALHOVEIA_MEMORY_BYTES + GALHOVEIA_RECORD_BYTES, SOUNDLESS_STATE_BYTES = GALHOVEIA_MEMORY_BYTES + 37,
-    NOP = 0xFFFF
-};
+enum { STATE_BYTES = GALHOVEIA_MEMORY_BYTES + GALHOVEIA_RECORD_BYTES, NOP = 0xFFFF };
+
+/* Earlier versions wrote states whose record ended where fields were added after them. */
+static const struct {
+    size_t record_bytes;
+    const char *added;
+} earlier[] = {{GALHOVEIA_RECORD_COUNT_1, "sound"}, {GALHOVEIA_RECORD_FROZEN, "Timer0's frozen nibble"}};
 
 /* ---- Files ---- */
 
@@ -20,9 +22,11 @@ void read_state(const char *path, struct state *state)
 {
     struct bytes file = read_file(path, FILE_MOST);
 
-    if (file.length == SOUNDLESS_STATE_BYTES)
-        fail("%s is a state of a version before sound: it has %zu bytes, and a state now has %d; make it anew by desk "
-             "fresh, or by desk run --save with the script that led to it", path, file.length, STATE_BYTES);
+    for (size_t at = 0; at < sizeof earlier / sizeof earlier[0]; at++)
+        if (file.length == GALHOVEIA_MEMORY_BYTES + earlier[at].record_bytes)
+            fail("%s is a state of a version before %s: it has %zu bytes, and a state now has %d; make it anew by desk "
+                 "fresh, or by desk run --save with the script that led to it", path, earlier[at].added, file.length,
+                 STATE_BYTES);
     if (file.length != STATE_BYTES)
         fail("%s is no state: it has %zu bytes, and a state has %d (%d of memory, %d of record)", path, file.length,
              STATE_BYTES, GALHOVEIA_MEMORY_BYTES, GALHOVEIA_RECORD_BYTES);
@@ -140,6 +144,8 @@ void show_registers(const struct state *state)
     printf("sound channel 1: output %u, count %u; channel 2: output %u, count %u\n", record[GALHOVEIA_RECORD_OUTPUT_1],
            two(record + GALHOVEIA_RECORD_COUNT_1), record[GALHOVEIA_RECORD_OUTPUT_2],
            two(record + GALHOVEIA_RECORD_COUNT_2));
+    if (record[GALHOVEIA_RECORD_FROZEN_MARK])
+        printf("Timer0's low nibble is frozen as %u until $004 is read\n", record[GALHOVEIA_RECORD_FROZEN]);
 }
 
 bool ask_writers(const struct book *book, uint32_t cell, struct writers *writers)

@@ -82,6 +82,8 @@ says out 'EVENT*N'
 says out '(EVENTS)*N'
 says out 'sound '
 says out '--wav FILE [--rate HZ]'
+ends 0 fresh --help
+says out 'the memory (1,024 bytes), then the record (45 bytes)'
 ends 0 book make --help
 says out 'EQU'
 says out '$300.2'
@@ -133,7 +135,7 @@ says err 'cannot read nowhere/dispatcher.script'
 
 echo "desk: fresh"
 ends 0 fresh one.state
-size_is one.state 1067
+size_is one.state 1069
 quiet
 cp one.state kept
 ends 2 fresh one.state --options 3
@@ -166,7 +168,7 @@ same one.state link
 absent nothing
 no_parts
 ends 0 fresh -- --odd-name
-size_is ./--odd-name 1067
+size_is ./--odd-name 1069
 (umask 027 && "$desk" fresh masked.state >/dev/null)
 case $(ls -l masked.state) in -rw-r-----*) ok ;; *) wrong "a file's mode does not follow the umask" ;; esac
 
@@ -178,7 +180,7 @@ says out 'sound channel 1: output 1, count 12; channel 2: output 0, count 0'
 quiet
 ends 0 run "$book" "$script" --save end.state
 says out 'state saved in end.state'
-size_is end.state 1067
+size_is end.state 1069
 cp end.state kept
 ends 2 run "$book" "$script" --save end.state --stop 010
 says err 'end.state exists'
@@ -245,22 +247,26 @@ ends 2 run "$book" folder
 says err 'cannot read folder'
 ends 2 run "$book" "$script" --state nowhere.state
 says err 'cannot read nowhere.state'
-head -c 1066 end.state >short.state
+head -c 1068 end.state >short.state
 ends 2 run "$book" "$script" --state short.state
-says err 'short.state is no state: it has 1066 bytes, and a state has 1067'
+says err 'short.state is no state: it has 1068 bytes, and a state has 1069'
 { cat end.state; printf x; } >long.state
 ends 2 run "$book" "$script" --state long.state
-says err 'it has 1068 bytes'
-# A state that was written before there was sound.
-head -c 1061 end.state >old.state
-ends 2 run "$book" "$script" --state old.state --save never.state
-says err 'old.state is a state of a version before sound'
-says err 'make it anew by desk fresh'
-absent never.state
-ends 2 level "$book" old.state
-says err 'a version before sound'
-ends 2 picture "$book" old.state
-says err 'a version before sound'
+says err 'it has 1070 bytes'
+# is_old BYTES FIELDS: a state of so many bytes is one that was written before there were these fields.
+is_old() {
+    head -c "$1" end.state >old.state
+    ends 2 run "$book" "$script" --state old.state --save never.state
+    says err "old.state is a state of a version before $2: it has $1 bytes, and a state now has 1069"
+    says err 'make it anew by desk fresh'
+    absent never.state
+    ends 2 level "$book" old.state
+    says err "a version before $2"
+    ends 2 picture "$book" old.state
+    says err "a version before $2"
+}
+is_old 1061 sound
+is_old 1067 "Timer0's frozen nibble"
 
 echo "desk: refused states"
 { printf '\020'; tail -c +2 end.state; } >cell.state
@@ -272,7 +278,7 @@ ends 1 level "$book" cell.state
 says err 'cell.state: refused by 3'
 ends 1 picture "$book" cell.state
 says err 'refused by 3'
-{ head -c 1024 end.state; printf '\020'; tail -c 42 end.state; } >record.state
+{ head -c 1024 end.state; printf '\020'; tail -c 44 end.state; } >record.state
 ends 1 run "$book" "$script" --state record.state
 says err 'refused by 4, value 0'
 ends 1 picture "$book" record.state
@@ -289,7 +295,7 @@ ends 1 run stop.book nine.script --save unlisted.state
 says err 'refused by 6, value 2'
 says err '$002'
 says out '2 of 9 events done'
-size_is unlisted.state 1067
+size_is unlisted.state 1069
 ends 1 level stop.book unlisted.state
 says err 'refused by 9, value 0'
 says err 'high digit'
@@ -705,15 +711,15 @@ says err 'refused by 3, value 0'
 absent never.wav
 absent never.state
 no_parts
-# Records with a count or an output out of its rule: bytes 37 to 42 of the record, the state's last six.
+# Records with a count or an output out of its rule: bytes 37 to 42 of the record, before the state's last two.
 for tail in '\004\000\000\000\000\000' '\003\370\000\000\000\000' '\000\000\002\000\000\000' '\000\000\000\003\370\000' \
     '\000\000\000\000\000\002'; do
     # shellcheck disable=SC2059
-    { head -c 1061 end.state; printf "$tail"; } >sound.state
+    { head -c 1061 end.state; printf "$tail"; tail -c 2 end.state; } >sound.state
     ends 1 run "$book" only.script --state sound.state
     says err 'refused by 4, value 0'
 done
-{ head -c 1061 end.state; printf '\003\367\001\003\367\001'; } >sound.state
+{ head -c 1061 end.state; printf '\003\367\001\003\367\001'; tail -c 2 end.state; } >sound.state
 ends 0 run "$book" empty.script --state sound.state
 says out 'sound channel 1: output 1, count 1015; channel 2: output 1, count 1015'
 # A million sound clocks, four to a cycle.
@@ -740,6 +746,68 @@ says err 'desk: FAULT: sound clock by sound clock the run comes to another end'
 ends 0 run "$book" silent.script --wav silent.wav --force
 quiet
 desk=$proved
+
+echo "desk: Timer0 read in two halves"
+cat >halves.asm <<'END'
+        LDI $002, 6     ; a count for every two cycles
+        LDI $004, 15
+        LDI $005, 3     ; the counter is $3F
+        LDA $005        ; and $40 after this
+        STA $020
+        LDA $004
+        STA $021
+END
+ends 0 book make halves.book halves.asm small.wiring small.level
+printf 'cycle*7' >seven.script
+cat >wanted <<'END'
+4 of 7 events done; stopped at $004
+PC $004, AC 3, CY 0, running
+sound channel 1: output 0, count 0; channel 2: output 0, count 0
+Timer0's low nibble is frozen as 15 until $004 is read
+END
+ends 0 run halves.book seven.script --stop 004
+same out wanted
+cat >wanted <<'END'
+7 of 7 events done; stopped at the script's end
+PC $007, AC 15, CY 0, running
+sound channel 1: output 0, count 0; channel 2: output 0, count 0
+changes, with events counted from 0:
+  event 4: $020 0 -> 3  by  $004  3C20  STA $020
+  event 6: $021 0 -> 15  by  $006  3C21  STA $021
+cell $020 (high digit of the level): 1 change; of 1 instruction that can change it 1 did
+cell $021 (low digit of the level): 1 change; of 1 instruction that can change it 1 did
+END
+ends 0 run halves.book seven.script --watch-level
+same out wanted
+# The nibble is kept in the state.
+ends 0 run halves.book seven.script --stop 004 --save half.state
+printf 'cycle*3' >rest.script
+cat >wanted <<'END'
+3 of 3 events done; stopped at the script's end
+PC $007, AC 15, CY 0, running
+sound channel 1: output 0, count 0; channel 2: output 0, count 0
+END
+ends 0 run halves.book rest.script --state half.state
+same out wanted
+# A reset releases it.
+printf 'reset' >reset.script
+ends 0 run halves.book reset.script --state half.state --save reset.state
+same reset.state fresh.state
+# Nibble and mark are the state's last two bytes.
+for tail in '\001\000' '\017\000' '\020\001' '\377\001' '\000\002' '\005\377'; do
+    # shellcheck disable=SC2059
+    { head -c 1067 end.state; printf "$tail"; } >frozen.state
+    ends 1 run "$book" empty.script --state frozen.state
+    says err 'refused by 4, value 0'
+    ends 1 picture "$book" frozen.state
+    says err 'frozen.state: refused by 4, value 0'
+done
+{ head -c 1067 end.state; printf '\000\001'; } >frozen.state
+ends 0 run "$book" empty.script --state frozen.state
+says out "Timer0's low nibble is frozen as 0 until \$004 is read"
+{ head -c 1067 end.state; printf '\017\001'; } >frozen.state
+ends 0 run "$book" empty.script --state frozen.state
+says out "Timer0's low nibble is frozen as 15 until \$004 is read"
 
 echo "desk: books"
 ends 0 book check "$book"
