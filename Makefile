@@ -98,12 +98,24 @@ build/bench/objects/%.o: %.c $(HEADERS)
 build/bench/objects/bench/sides.o: DEFINES = $(if $(BEFORE),-DBENCH_BEFORE)
 build/bench/objects/bench/sides.o: asked
 
-# The earlier library: its calls get other names, and everything else in it stays its own.
-build/bench/before.o: $(BEFORE) asked
+# A library that is measured, now and before, is linked at four offsets (bench/sides.h): what puts it there, and copies
+# of it whose calls have names of their own; everything else in a copy stays its own.
+OFFSETS = 0 1 2 3
+MEASURED = fresh run step list level picture
+
+build/bench/offset%.o:
 	@mkdir -p $(dir $@)
-	ld -r -o $@ --whole-archive $<
-	objcopy $(foreach call,fresh run step list level picture,--redefine-sym galhoveia_$(call)=before_$(call)) $@
-	objcopy --wildcard --keep-global-symbol='before_*' $@
+	printf '.section .text.offset, "ax"\n.p2align 6\n.skip 64 + 16 * %s\n' $* | $(CC) -c -Wa,--noexecstack -x assembler -o $@ -
+
+COPY = ld -r -o $@ $< --whole-archive $(1) && \
+    objcopy $(foreach call,$(MEASURED),--redefine-sym galhoveia_$(call)=$(2)$*_$(call)) $@ && \
+    objcopy --wildcard --keep-global-symbol='$(2)$*_*' $@
+
+build/bench/now%.o: build/bench/offset%.o $(BENCH_LIB) asked
+	$(call COPY,$(BENCH_LIB),now)
+
+build/bench/before%.o: build/bench/offset%.o $(BEFORE) asked
+	$(call COPY,$(BEFORE),before)
 
 build/sanitized/libstandin.a: $(patsubst %.c,build/sanitized/objects/%.o,tests/standin.c $(SECOND))
 	rm -f $@
@@ -119,7 +131,7 @@ build/plain/compare: $(patsubst %.c,build/plain/objects/%.o,$(COMPARE) $(SECOND)
 
 # Linked each time, so that it has the libraries that were asked for.
 build/bench/measure: $(patsubst %.c,build/bench/objects/%.o,$(BENCH) $(SECOND)) $(BENCH_LIB) \
-    $(if $(BEFORE),build/bench/before.o)
+    $(OFFSETS:%=build/bench/now%.o) $(if $(BEFORE),$(OFFSETS:%=build/bench/before%.o))
 	$(CC) -o $@ $^
 
 build/plain/header: build/plain/objects/tests/header.o $(LIB)

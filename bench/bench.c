@@ -11,7 +11,7 @@
 #include <string.h>
 
 enum {
-    TURNS = 15, RUN_EVENTS = 2000000, STEPS = 40000, LISTED_CELLS = 40, LISTS = 40, SECOND_LISTS = 1, LEVELS = 40000,
+    TURNS = 5 * OFFSETS, RUN_EVENTS = 2000000, STEPS = 40000, LISTED_CELLS = 40, LISTS = 40, SECOND_LISTS = 1, LEVELS = 40000,
     PICTURES = 40000, OFTEN = 10, SELDOM = 100, LONGEST = 10000000, TIMED_AT_LEAST = 1000000
 };
 
@@ -114,7 +114,7 @@ static void same(const char *what, const void *left, const void *right, size_t l
    $005. */
 static int sides_with(size_t length)
 {
-    return sides > BEFORE && record_bytes(&side[BEFORE]) < length ? BEFORE : sides;
+    return sides > BEFORE && record_bytes(side_in(0, BEFORE)) < length ? BEFORE : sides;
 }
 
 static void measure_run_on(int taking_part, const char *what, struct load load, struct machine start)
@@ -126,7 +126,7 @@ static void measure_run_on(int taking_part, const char *what, struct load load, 
 
         for (int at = 0; at < taking_part; at++) {
             end[at] = start;
-            times.of[at][turn] = time_runs(&side[at], load, RUN_EVENTS, 1, &end[at]);
+            times.of[at][turn] = time_runs(side_in(turn, at), load, RUN_EVENTS, 1, &end[at]);
             same(what, &end[GALHOVEIA], &end[at], sizeof end[at]);
         }
     }
@@ -147,7 +147,7 @@ static void measure_steps(const char *what, struct load load)
 
         for (int at = 0; at < sides; at++) {
             end[at] = awake();
-            times.of[at][turn] = time_steps(&side[at], load, STEPS, &end[at]);
+            times.of[at][turn] = time_steps(side_in(turn, at), load, STEPS, &end[at]);
             same(what, &end[GALHOVEIA], &end[at], sizeof end[at]);
         }
     }
@@ -162,8 +162,8 @@ static void measure_lists(const char *what, const uint8_t *program, unsigned cel
 
     for (int turn = 0; turn < TURNS; turn++)
         for (int at = 0; at < sides; at++) {
-            times.of[at][turn] = time_lists(&side[at], program, cells, at == SECOND ? SECOND_LISTS : LISTS, list[at]);
-            (void)time_lists(&side[at], program, 1, 1, list[at]);
+            times.of[at][turn] = time_lists(side_in(turn, at), program, cells, at == SECOND ? SECOND_LISTS : LISTS, list[at]);
+            (void)time_lists(side_in(turn, at), program, 1, 1, list[at]);
             same(what, list[GALHOVEIA], list[at], sizeof list[at]);
         }
     line(what, &times);
@@ -180,7 +180,7 @@ static void measure_levels(const char *what)
     machine.memory[0x021] = 7;
     for (int turn = 0; turn < TURNS; turn++)
         for (int at = 0; at < sides; at++) {
-            times.of[at][turn] = time_levels(&side[at], &machine, body, LEVELS, &shown[at]);
+            times.of[at][turn] = time_levels(side_in(turn, at), &machine, body, LEVELS, &shown[at]);
             same(what, &shown[GALHOVEIA], &shown[at], sizeof shown[at]);
         }
     line(what, &times);
@@ -197,7 +197,7 @@ static void measure_pictures(const char *what)
     full_panel(machine.memory, wiring);
     for (int turn = 0; turn < TURNS; turn++)
         for (int at = 0; at < sides; at++) {
-            times.of[at][turn] = time_pictures(&side[at], &machine, wiring, PICTURES, &shown[at]);
+            times.of[at][turn] = time_pictures(side_in(turn, at), &machine, wiring, PICTURES, &shown[at]);
             same(what, &shown[GALHOVEIA], &shown[at], sizeof shown[at]);
         }
     line(what, &times);
@@ -205,12 +205,12 @@ static void measure_pictures(const char *what)
 
 /* ---- How the time grows ---- */
 
-static double time_length(struct load load, size_t length)
+static double time_length(int turn, struct load load, size_t length)
 {
     size_t times = length < TIMED_AT_LEAST ? TIMED_AT_LEAST / length : 1;
     struct machine machine = awake();
 
-    return time_runs(&side[GALHOVEIA], load, length, times, &machine);
+    return time_runs(side_in(turn, GALHOVEIA), load, length, times, &machine);
 }
 
 /* Every turn takes all lengths, so that other work on the machine disturbs one as much as another. */
@@ -222,7 +222,7 @@ static void measure_lengths(const char *what, struct load load)
 
     for (int turn = 0; turn < TURNS; turn++)
         for (int at = 0; at < LENGTHS; at++) {
-            double time = time_length(load, lengths[at]);
+            double time = time_length(turn, load, lengths[at]);
 
             if (turn == 0 || time < best[at])
                 best[at] = time;

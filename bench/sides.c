@@ -1,36 +1,54 @@
-/* The sides; with BENCH_BEFORE also the earlier galhoveia, whose calls the Makefile renames. */
+/* The sides; with BENCH_BEFORE also the earlier galhoveia. The Makefile gives each copy of a library calls of its own. */
 #include "sides.h"
 
 #include "../desk/galhoveia.h"
 #include "../second/second.h"
 
+#define DECLARE(name)                                                                                                  \
+    uint32_t name##_fresh(uint8_t *, size_t, uint8_t *, size_t, uint32_t, uint64_t *);                                \
+    uint32_t name##_run(const uint8_t *, size_t, uint8_t *, size_t, uint8_t *, size_t, const uint8_t *, size_t,       \
+                        uint32_t, uint32_t *, uint64_t *, uint64_t *);                                                \
+    uint32_t name##_step(const uint8_t *, size_t, uint8_t *, size_t, uint8_t *, size_t, uint8_t, uint64_t *);         \
+    uint32_t name##_list(const uint8_t *, size_t, uint32_t, uint8_t *, size_t, uint64_t *, uint64_t *);               \
+    uint32_t name##_level(const uint8_t *, size_t, const uint8_t *, size_t, int32_t *, uint64_t *);                   \
+    uint32_t name##_picture(const uint8_t *, size_t, const uint8_t *, size_t, const uint8_t *, size_t, uint8_t *,     \
+                            size_t, uint64_t *, uint64_t *);
+
+#define CALLS(name) {name##_fresh, name##_run, name##_step, name##_list, name##_level, name##_picture}
+
+DECLARE(now0)
+DECLARE(now1)
+DECLARE(now2)
+DECLARE(now3)
+
 #ifdef BENCH_BEFORE
-uint32_t before_fresh(uint8_t *, size_t, uint8_t *, size_t, uint32_t, uint64_t *);
-uint32_t before_run(const uint8_t *, size_t, uint8_t *, size_t, uint8_t *, size_t, const uint8_t *, size_t, uint32_t,
-                    uint32_t *, uint64_t *, uint64_t *);
-uint32_t before_step(const uint8_t *, size_t, uint8_t *, size_t, uint8_t *, size_t, uint8_t, uint64_t *);
-uint32_t before_list(const uint8_t *, size_t, uint32_t, uint8_t *, size_t, uint64_t *, uint64_t *);
-uint32_t before_level(const uint8_t *, size_t, const uint8_t *, size_t, int32_t *, uint64_t *);
-uint32_t before_picture(const uint8_t *, size_t, const uint8_t *, size_t, const uint8_t *, size_t, uint8_t *, size_t,
-                        uint64_t *, uint64_t *);
+DECLARE(before0)
+DECLARE(before1)
+DECLARE(before2)
+DECLARE(before3)
 
 const int sides = BEFORE + 1;
 #else
 const int sides = BEFORE;
 #endif
 
-const struct side side[SIDES_MOST] = {
-    [GALHOVEIA] = {galhoveia_fresh, galhoveia_run, galhoveia_step, galhoveia_list, galhoveia_level, galhoveia_picture},
-    [SECOND] = {second_fresh, second_run, second_step, second_list, second_level, second_picture},
+static const struct side side[SIDES_MOST][OFFSETS] = {
+    [GALHOVEIA] = {CALLS(now0), CALLS(now1), CALLS(now2), CALLS(now3)},
+    [SECOND] = {CALLS(second), CALLS(second), CALLS(second), CALLS(second)},
 #ifdef BENCH_BEFORE
-    [BEFORE] = {before_fresh, before_run, before_step, before_list, before_level, before_picture},
+    [BEFORE] = {CALLS(before0), CALLS(before1), CALLS(before2), CALLS(before3)},
 #endif
 };
 
+const struct side *side_in(int turn, int at)
+{
+    return &side[at][turn % OFFSETS];
+}
+
 size_t record_bytes(const struct side *asked)
 {
-    static size_t found[SIDES_MOST];
-    size_t *bytes = &found[asked - side];
+    static size_t found[SIDES_MOST * OFFSETS];
+    size_t *bytes = &found[asked - side[0]];
     uint8_t memory[GALHOVEIA_MEMORY_BYTES], record[GALHOVEIA_RECORD_BYTES];
     uint64_t value;
 

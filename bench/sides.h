@@ -7,6 +7,10 @@
 
 enum { GALHOVEIA, SECOND, BEFORE, SIDES_MOST };
 
+/* Where its code comes to lie in a line of the cache is an accident of linking, and moves a run by a tenth and more. So
+   galhoveia, now and before, is linked at so many offsets, 16 bytes apart, and takes them turn by turn. */
+enum { OFFSETS = 4 };
+
 struct side {
     uint32_t (*fresh)(uint8_t *, size_t, uint8_t *, size_t, uint32_t, uint64_t *);
     uint32_t (*run)(const uint8_t *, size_t, uint8_t *, size_t, uint8_t *, size_t, const uint8_t *, size_t, uint32_t,
@@ -18,8 +22,9 @@ struct side {
                         uint64_t *, uint64_t *);
 };
 
-extern const struct side side[SIDES_MOST];
 extern const int sides; /* BEFORE is among them, or not */
+
+const struct side *side_in(int turn, int at);
 
 /* How much of a record the side works on: an earlier galhoveia may know the first fields only. */
 size_t record_bytes(const struct side *asked);
