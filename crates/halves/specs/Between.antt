@@ -80,6 +80,33 @@ touchesBy Nop l = false
 unfoldable pub freezesBy : Instruction → List ℕ → Bool
 freezesBy i l = onlyReads i l 0x05
 
+-- whether an instruction releases what is frozen: it reads $004 or writes $005; a form that does both does so on either
+unfoldable pub releasesBy : Instruction → List ℕ → Bool
+releasesBy (Accumulator o x) l = eqb (targetOf l x) 0x04
+releasesBy (Memory o x) l = halfOf (targetOf l x)
+releasesBy (Lda x) l = eqb (targetOf l x) 0x04
+releasesBy (Sta x) l = eqb (targetOf l x) 0x05
+releasesBy (Immediate Adi x i) l = eqb (targetOf l x) 0x04
+releasesBy (Immediate Adim x i) l = halfOf (targetOf l x)
+releasesBy (Immediate Sbi x i) l = eqb (targetOf l x) 0x04
+releasesBy (Immediate Sbim x i) l = halfOf (targetOf l x)
+releasesBy (Immediate Eorim x i) l = halfOf (targetOf l x)
+releasesBy (Immediate Orim x i) l = halfOf (targetOf l x)
+releasesBy (Immediate Andim x i) l = halfOf (targetOf l x)
+releasesBy (Ldi x i) l = eqb (targetOf l x) 0x05
+releasesBy (Branch b t) l = false
+releasesBy (Call t) l = false
+releasesBy (Daa x) l = halfOf (targetOf l x)
+releasesBy (Das x) l = halfOf (targetOf l x)
+releasesBy (Rtnw h k) l = false
+releasesBy Rtni l = false
+releasesBy Halt l = false
+releasesBy Stop l = false
+releasesBy (Jmp t) l = false
+releasesBy Shr l = false
+releasesBy Tjmp l = false
+releasesBy Nop l = false
+
 unfoldable pub wordDoes : (Instruction → List ℕ → Bool) → Decoded → List ℕ → Bool
 wordDoes f (Listed i) l = f i l
 wordDoes f (Refused why) l = false
@@ -98,6 +125,11 @@ touchesOf p s e =
 
 unfoldable pub freezesOf : List ℕ → State → ℕ → Bool
 freezesOf p s e = pick (eqb e 0x00) (cycleDoes freezesBy p s) false
+
+-- an event that releases: such a cycle, the reset pin, the watchdog's reset
+unfoldable pub releasesOf : List ℕ → State → ℕ → Bool
+releasesOf p s e =
+    pick (eqb e 0x00) (cycleDoes releasesBy p s) (pick (eqb e 0x02) (expiresOf (s .machine)) (eqb e 0x03))
 
 -- events of which none does so, each judged in the state that it finds
 abbrev pub None : (List ℕ → State → ℕ → Bool) → List ℕ → List ℕ → State → Type 0
