@@ -177,7 +177,7 @@ static void picture_of(const struct machine *machine, struct lent body, size_t r
 static void pictures(void)
 {
     static const uint16_t memory_lengths[] = {0, 1, 1023, 1025, 2048};
-    static const uint16_t record_lengths[] = {0, 1, 36, 38, 74};
+    static const uint16_t record_lengths[] = {0, 1, 36, 37, 38, 42, 43, 44, 46, 90};
     static uint8_t body[WIRING_MOST], output[ELEMENTS_MOST];
     struct machine machine;
 
@@ -222,7 +222,7 @@ static void pictures(void)
             if (set & 1)
                 memory = (struct lent){long_area, memory_lengths[any(5)]};
             if (set & 4)
-                record = (struct lent){long_area, record_lengths[any(5)]};
+                record = (struct lent){long_area, record_lengths[any(sizeof record_lengths / sizeof record_lengths[0])]};
             if (set & 16)
                 wiring.length = any(2) ? 29 : 31;
             answer = pair_picture(memory, record, wiring, (struct lent){output, set & 64 ? any(10) : 10});
