@@ -1752,11 +1752,15 @@ static void sound_and_modes(void)
 
     from("02, P1: a sound clock moves the channels alone");
     two_tones();
+    record[R_FROZEN] = 7;
+    record[R_FROZEN_MARK] = 1;
     memcpy(memory_before, memory, sizeof memory);
     memcpy(record_before, record, sizeof record);
     events(SOUND_CLOCK, 1);
     is("memory changed, so that nothing is requested", memcmp(memory, memory_before, sizeof memory) != 0, 0);
-    is("other fields changed", memcmp(record, record_before, R_COUNT_1) != 0, 0);
+    is("fields before them changed", memcmp(record, record_before, R_COUNT_1) != 0, 0);
+    is("the frozen nibble", record[R_FROZEN], 7);
+    is("its mark", record[R_FROZEN_MARK], 1);
     is("count of channel 1", count_of(1), 3);
     is("output of channel 2", output_of(2), 1);
 
