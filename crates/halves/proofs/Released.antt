@@ -31,7 +31,7 @@ use Rattle.sh_execute.specs.Execute.{onwardOf, tookOf, putOf, accumulatedOf, st
 use Rattle.sh_cycle.specs.Cycle.{readTakenOf, wokenOf, executedOf, instructedOf, awakeCycleOf, cycleDueOf, cycleOf}
 use Rattle.sh_events.specs.Event.{basePulseOf, watchdogPulseOf, otherOf, eventOf}
 use Rattle.origins.specs.Origin.{afterOf}
-use Rattle.halves.specs.Between.{onlyReads, halfOf, touchesBy, freezesBy, releasesBy, wordDoes, cycleDoes, touchesOf, freezesOf, releasesOf, None}
+use Rattle.halves.specs.Between.{onlyReads, halfOf, touchesBy, freezesBy, releasesBy, wordDoes, cycleDoes, resetsOf, touchesOf, freezesOf, releasesOf, None}
 use Rattle.halves.proofs.Stays.{base-stays, counted-down-stays, finished-stays, put-stays, execute-stays, interrupt-stays, asleep-stays, pins-stay}
 
 abbrev pub Free : Machine → Type 0
@@ -171,8 +171,8 @@ reset-free : (column : Column) (s : State) → FreeIn (reset.resetOf column s)
 unfolding reset.resetOf reset.resetRecordOf reset.pinsOf freshOf setPinA setPinB setPinC setPinD
 reset-free column s = refl
 
-other-releases : (s : State) (e : ℕ) → pick (eqb e 0x02) (expiresOf (s .machine)) (eqb e 0x03) ≡ true → FreeIn (otherOf s e)
-unfolding otherOf watchdogPulseOf
+other-releases : (s : State) (e : ℕ) → resetsOf s e ≡ true → FreeIn (otherOf s e)
+unfolding resetsOf otherOf watchdogPulseOf
 other-releases s e h =
     test (eqb e 0x02)
     (λ b. let z = eqb-true e 0x02 b in rw (z, rw b at h) (reset-free Watchdog s))

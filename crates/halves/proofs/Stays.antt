@@ -25,7 +25,7 @@ use Rattle.sh_periods.specs.Periods.{ratioOf, baseRatioOf, baseOn}
 use Rattle.sh_timers.specs.declared.request.Moved.{Moved}
 use Rattle.sh_timers.specs.Timer0.{countedOf, prescaledBy, prescaledOf, clockedOf, fallenOf}
 use Rattle.sh_base_timer.specs.BaseTimer.{baseCountedOf, basePrescaledBy, basePrescaledOf, basePulsedOf}
-use Rattle.sh_watchdog.specs.Watchdog.{expiresOf, countedDownOf}
+use Rattle.sh_watchdog.specs.Watchdog.{countedDownOf}
 use Rattle.sh_sound.specs.Sound.{soundOf}
 use Rattle.sh_interrupts.specs.Interrupt.{dueOf, awakeOf, enteredOf, interruptedOf}
 use Rattle.sh_execute.specs.Execute.{onwardOf, tookOf, putOf, accumulatedOf, storedOf, loadOf, accumulatorFormOf, memoryFormOf, ldaOf, staOf, ldiOf, withImmediateOf, storedImmediateOf, immediateFormOf, daaOf, dasOf, takenOf, branchIfOf, branchOf, callOf, rtnwOf, rtniOf, restOf, shrOf, tjmpOf, executeOf}
@@ -33,7 +33,7 @@ use Rattle.sh_cycle.specs.Cycle.{readTakenOf, wokenOf, clockOf, finishedOf, exe
 use Rattle.sh_events.specs.Ports.{portAOf, portBOf, portCOf}
 use Rattle.sh_events.specs.Event.{basePulseOf, watchdogPulseOf, pinsOf, otherOf, eventOf}
 use Rattle.origins.specs.Origin.{afterOf}
-use Rattle.halves.specs.Between.{halfOf, touchesBy, wordDoes, cycleDoes, touchesOf, None}
+use Rattle.halves.specs.Between.{halfOf, touchesBy, wordDoes, cycleDoes, resetsOf, touchesOf, None}
 
 -- the record left has the frozen nibble that this one has
 abbrev pub Kept : Machine → Machine → Type 0
@@ -182,8 +182,8 @@ pins-stay s e =
     (by-choice (Left s) (eqb (e / 16) 2) _ _ refl
     (by-choice (Left s) (eqb (e / 16) 3) _ _ refl (by-choice (Left s) (eqb (e / 16) 4) _ _ refl refl)))
 
-other-stays : (s : State) (e : ℕ) → pick (eqb e 0x02) (expiresOf (s .machine)) (eqb e 0x03) ≡ false → Left s (otherOf s e)
-unfolding otherOf basePulseOf watchdogPulseOf soundOf setChannels
+other-stays : (s : State) (e : ℕ) → resetsOf s e ≡ false → Left s (otherOf s e)
+unfolding resetsOf otherOf basePulseOf watchdogPulseOf soundOf setChannels
 other-stays s e h =
     by-choice (Left s) (eqb e 0x01) _ _ (base-stays (s .machine) _)
     (test (eqb e 0x02)

@@ -118,18 +118,19 @@ cycleDoes f p s =
     (pick (eqb (dueOf (s .memory)) 0) (wordDoes f (decodeOf (at p (s .machine .pc))) (s .memory)) false)
     false
 
--- an event that reads $004 or $005, writes $005 or resets: such a cycle, the reset pin, the watchdog's reset
+-- the watchdog's reset, or the reset pin
+unfoldable pub resetsOf : State → ℕ → Bool
+resetsOf s e = pick (eqb e 0x02) (expiresOf (s .machine)) (eqb e 0x03)
+
+-- an event that reads $004 or $005, writes $005 or resets
 unfoldable pub touchesOf : List ℕ → State → ℕ → Bool
-touchesOf p s e =
-    pick (eqb e 0x00) (cycleDoes touchesBy p s) (pick (eqb e 0x02) (expiresOf (s .machine)) (eqb e 0x03))
+touchesOf p s e = pick (eqb e 0x00) (cycleDoes touchesBy p s) (resetsOf s e)
 
 unfoldable pub freezesOf : List ℕ → State → ℕ → Bool
 freezesOf p s e = pick (eqb e 0x00) (cycleDoes freezesBy p s) false
 
--- an event that releases: such a cycle, the reset pin, the watchdog's reset
 unfoldable pub releasesOf : List ℕ → State → ℕ → Bool
-releasesOf p s e =
-    pick (eqb e 0x00) (cycleDoes releasesBy p s) (pick (eqb e 0x02) (expiresOf (s .machine)) (eqb e 0x03))
+releasesOf p s e = pick (eqb e 0x00) (cycleDoes releasesBy p s) (resetsOf s e)
 
 -- events of which none does so, each judged in the state that it finds
 abbrev pub None : (List ℕ → State → ℕ → Bool) → List ℕ → List ℕ → State → Type 0
