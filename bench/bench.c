@@ -1,7 +1,8 @@
 /* Measures galhoveia beside the second emulator and, where one is given, beside an earlier galhoveia: the same inputs,
-   in one run, turn by turn. Speeds are those of the best turn. Ratios are taken turn by turn, of times that lie next to
-   each other, and the median is told, since the machine's own speed changes from turn to turn: a ratio of 1 means as
-   fast as the second emulator, 0.25 a quarter of its speed; the last column is the speed now over the speed before. */
+   in one run, turn by turn. Speeds are those of the best turn. A ratio of 1 means as fast as the second emulator, 0.25 a
+   quarter of its speed; it is the median of the ratios taken turn by turn, of times that lie next to each other, since
+   the machine's own speed changes from turn to turn. The last two columns are the speed now over the speed before, of
+   the best turns and as such a median: what the processor does undisturbed, and what it mostly does. */
 #include "loads.h"
 #include "sides.h"
 #include "timing.h"
@@ -56,7 +57,7 @@ static void heading(void)
 {
     printf("%-42s %14s %14s %8s", "load (per second)", "galhoveia", "second", "ratio");
     if (sides > BEFORE)
-        printf(" %14s %10s", "before", "now/before");
+        printf(" %14s %10s %8s", "before", "now/before", "median");
     printf("\n");
 }
 
@@ -96,7 +97,8 @@ static void line(const char *what, const struct times *times)
 {
     printf("%-42s %14.0f %14.0f %8.2f", what, speed(times, GALHOVEIA), speed(times, SECOND), beside(times, SECOND));
     if (times->of[BEFORE][0] != 0)
-        printf(" %14.0f %10.2f", speed(times, BEFORE), beside(times, BEFORE));
+        printf(" %14.0f %10.2f %8.2f", speed(times, BEFORE), speed(times, GALHOVEIA) / speed(times, BEFORE),
+               beside(times, BEFORE));
     printf("\n");
     fflush(stdout);
 }

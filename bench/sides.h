@@ -7,8 +7,9 @@
 
 enum { GALHOVEIA, SECOND, BEFORE, SIDES_MOST };
 
-/* Where its code comes to lie in a line of the cache is an accident of linking, and moves a run by a tenth and more. So
-   galhoveia, now and before, is linked at so many offsets, 16 bytes apart, and takes them turn by turn. */
+/* Where its code comes to lie in a line of the cache is an accident of linking, and moves the example dispatcher's run by
+   up to a fifth. So galhoveia, now and before, is linked at so many offsets, 16 bytes apart, and takes them turn by
+   turn. */
 enum { OFFSETS = 4 };
 
 struct side {
