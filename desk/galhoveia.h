@@ -8,6 +8,7 @@
      record    45 bytes: the registers that are not in RAM, as listed below
      script    any number of bytes: what happens to the chip, one event in each
      book      a file of the records desk: a program, the wiring of a panel, and where the panel keeps its level
+     listing   a program as text: one line for each of its 4,096 words, described at galhoveia_listing_write
 
    Every call answers 0 (done) or the number of a refusal, and always writes *value: the number that goes with the
    refusal, or 0. A refusal leaves every lent byte and every other out value as it was, with one exception, told at
@@ -60,6 +61,8 @@ extern "C" {
 #define GALHOVEIA_ELEMENT_BYTES  3    /* one element of a book's wiring body */
 #define GALHOVEIA_ELEMENTS_MOST  240
 #define GALHOVEIA_BOOK_BYTES_MOST 8933 /* 16 of contents, the program, 240 elements, the level body */
+#define GALHOVEIA_LINE_BYTES_MOST 21   /* the longest line of a listing, with its line feed */
+#define GALHOVEIA_LISTING_BYTES_MOST 86016
 
 /* The answer of every call. Where several refusals apply, the lowest number is told, but 7 only where nothing else
    applies, and in galhoveia_level 10 and 11 come before 9. */
@@ -76,7 +79,9 @@ enum {
     GALHOVEIA_DIGIT = 9,          /* a digit of the level is above 7; value: 0 the high digit, 1 the low one */
     GALHOVEIA_LENGTH = 10,        /* a book's contents or length, or the length of a body, is wrong; value: 0 */
     GALHOVEIA_BODY = 11,          /* a body holds a value out of its rule; value: the kind, 2 wiring, 3 level */
-    GALHOVEIA_OPTIONS = 12        /* options above 7 asked of a fresh machine; value: the options */
+    GALHOVEIA_OPTIONS = 12,       /* options above 7 asked of a fresh machine; value: the options */
+    GALHOVEIA_LISTING = 26        /* a text is no listing; value: the number of good lines that it begins with, so the
+                                     first bad line, counted from 0 */
 };
 
 /* The memory. Cells that exist: $000-$01F registers, $020-$16F data, $300-$348 display, $358-$36D scan, $370-$377
@@ -198,6 +203,30 @@ uint32_t galhoveia_book_read(const uint8_t *book, size_t book_len, uint64_t *pro
 uint32_t galhoveia_book_write(const uint8_t *program, size_t program_len, const uint8_t *wiring, size_t wiring_len,
                               const uint8_t *level, size_t level_len, uint8_t *book, size_t room,
                               uint64_t *count, uint64_t *value);
+
+/* Writes a program as text: a line for each address, ascending. A line is the address (3 digits), the word (4), the
+   data sheet's mnemonic and its operands in the sheet's order, with one space between items and a line feed at the end;
+   digits are upper-case hexadecimal. A cell (bank x 128 + X, or X) and a target have 3 digits, an immediate number and
+   RTNW's two nibbles have 1; a branch and CALL show the word's own eleven bits. A word that is no instruction has the
+   mark DATA.
+
+     013 3CA0 STA 0A0
+     011 48A0 ADIM 020 1
+     A34 8923 BNC 123
+     022 D042 RTNW 4 2
+     FFF FFFF NOP
+     029 CB80 DATA
+
+   *count is the bytes written, and bytes beyond them stay. GALHOVEIA_LISTING_BYTES_MOST bytes are always room enough.
+   Can answer 1, 7 (with the length of this program's listing). */
+uint32_t galhoveia_listing_write(const uint8_t *program, size_t program_len, uint8_t *text, size_t room,
+                                 uint64_t *count, uint64_t *value);
+
+/* Reads such a text back into the program's 8,192 bytes. A text is taken only if it is exactly what
+   galhoveia_listing_write gives for some program: all 4,096 lines, each as it is written there, and nothing behind
+   them. A room of more than 8,192 bytes is taken, and the bytes beyond stay. Can answer 7, 26; an empty text is 26 with
+   0, a text whose last line feed is missing 26 with 4095, and one with anything behind 4,096 good lines 26 with 4096. */
+uint32_t galhoveia_listing_read(const uint8_t *text, size_t text_len, uint8_t *program, size_t room, uint64_t *value);
 
 #ifdef __cplusplus
 }

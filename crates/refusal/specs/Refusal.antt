@@ -1,7 +1,7 @@
--- The number and the value of each reason (01, "What comes back when a call is turned down"): the table's first column, its words, its last column.
+-- The number and the value of each reason (01, "What comes back when a call is turned down"): the table's first column, its words, its last column; and of those that 02 adds.
 use Prim.Native.Nat.{ℕ}
 use Rattle.refusal.specs.declared.Refusal.{Refusal}
-use Rattle.refusal.specs.declared.Refusal.the-variants.{ProgramLength, MemoryLength, CellRule, Record, UnknownEvent, UnlistedWord, Room, NotAskable, Digit, Contents, Body, Options, Field}
+use Rattle.refusal.specs.declared.Refusal.the-variants.{ProgramLength, MemoryLength, CellRule, Record, UnknownEvent, UnlistedWord, Room, NotAskable, Digit, Contents, Body, Options, Field, Listing}
 
 -- No.
 abbrev pub numberOf : Refusal → ℕ
@@ -18,6 +18,7 @@ numberOf Contents = 10  -- contents or file length wrong
 numberOf (Body v) = 11  -- a body value out of its rule, or equal level cells
 numberOf (Options v) = 12  -- options above 7, asked of a fresh machine
 numberOf Field = 13  -- instruction field out of range
+numberOf (Listing v) = 26  -- 02, P3: a text that isn't such a listing
 
 -- With it
 abbrev pub valueOf : Refusal → ℕ
@@ -34,3 +35,4 @@ valueOf Contents = 0  -- 0
 valueOf (Body v) = v  -- body kind
 valueOf (Options v) = v  -- value
 valueOf Field = 0  -- 0
+valueOf (Listing v) = v  -- 02, P3: the first bad line, counted from 0

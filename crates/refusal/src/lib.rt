@@ -1,4 +1,4 @@
-// Why a call is turned down: one variant for each line of the table of 01, "What comes back when a call is turned down", with its number and what goes with it.
+// Why a call is turned down: one variant for each line of the table of 01, "What comes back when a call is turned down", and for 02's, with its number and what goes with it.
 ghost use mathlib.Core.Path.{_≡_};
 ghost use Rattle.refusal.specs.Refusal.{numberOf, valueOf};
 
@@ -16,6 +16,7 @@ pub enum Refusal {
     Body(u64),
     Options(u64),
     Field,
+    Listing(u64),
 }
 
 // The table's number.
@@ -36,6 +37,7 @@ pub fn number(why: Refusal) -> u32
         Refusal::Body(_) => 11,
         Refusal::Options(_) => 12,
         Refusal::Field => 13,
+        Refusal::Listing(_) => 26,
     }
 }
 
@@ -57,5 +59,6 @@ pub fn value(why: Refusal) -> u64
         Refusal::Body(kind) => kind,
         Refusal::Options(given) => given,
         Refusal::Field => 0,
+        Refusal::Listing(line) => line,
     }
 }
