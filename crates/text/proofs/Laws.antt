@@ -197,7 +197,7 @@ begins-hex (suc d) v t h k =
     let s = hexOf d (v / 16) in
     let x = digitOf (v % 16) in
     let j : at (drop (length s) t) 0 ≡ at t d =
-        getD-drop (length s) t 0 0 ∙ ap (at t) (let e = hex-length d (v / 16) in omega (arith, e)) in
+    getD-drop (length s) t 0 0 ∙ ap (at t) (let e = hex-length d (v / 16) in omega (arith, e)) in
     begins-append s (x ∷ []) t
     ∙ (ap (both (begins s t)) (begins-byte x (drop (length s) t) (digit-some (v % 16)) ∙ ap (λ (n : ℕ). eqb n x) j)
     ∙ (ap (λ (b : Bool). both b (eqb (at t d) x)) (begins-hex d (v / 16) t (omega arith) (omega arith)) ∙ digit-more (numberIn d t) (at t d) v h))
@@ -235,7 +235,7 @@ module _ (t : List ℕ) (p k j x : ℕ) (e : k ≡ suc j) (h : p + k ≤ length 
       let s = lettersOf j (x / 256) in
       let n = letters-length j (x / 256) in
       let a : at (drop (length s) (drop p t)) 0 ≡ at t (p + j) =
-          getD-drop (length s) (drop p t) 0 0 ∙ (getD-drop p t (length s + 0) 0 ∙ ap (at t) (omega (arith, n))) in
+      getD-drop (length s) (drop p t) 0 0 ∙ (getD-drop p t (length s + 0) 0 ∙ ap (at t) (omega (arith, n))) in
       let w : 0 < length (drop (length s) (drop p t)) = omega (arith, n, length-drop (length s) (drop p t), length-drop p t) in
       ap (λ (n : ℕ). begins (lettersOf n x) (drop p t)) e
       ∙ (begins-append s (x % 256 ∷ []) (drop p t)

@@ -1,0 +1,2 @@
+pub mod Mnemonics
+pub mod Names
