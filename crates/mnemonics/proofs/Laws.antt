@@ -67,8 +67,8 @@ pub kinds-by : (n : ℕ) → n < 44 → (firstBy n ≡ rowOf n .first) × (secon
 kinds-by n h =
     let z : 0 + n ≡ n = omega arith in
     let t =
-        both-true (sameKind (firstBy n) (rowOf n .first)) (sameKind (secondBy n) (rowOf n .second))
-        (rw z at (every-at (λ n. both (sameKind (firstBy n) (rowOf n .first)) (sameKind (secondBy n) (rowOf n .second))) 6 0 n all-kinds (omega arith))) in
+    both-true (sameKind (firstBy n) (rowOf n .first)) (sameKind (secondBy n) (rowOf n .second))
+    (rw z at (every-at (λ n. both (sameKind (firstBy n) (rowOf n .first)) (sameKind (secondBy n) (rowOf n .second))) 6 0 n all-kinds (omega arith))) in
     (same-kind (firstBy n) (rowOf n .first) (t .0), same-kind (secondBy n) (rowOf n .second) (t .1))
 
 pub first-by : (n : ℕ) {r : Kind} → n < 44 → r ≡ firstBy n → r ≡ rowOf n .first

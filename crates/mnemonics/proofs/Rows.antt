@@ -16,7 +16,7 @@ use Rattle.word.specs.Codes.{operationOf, immediateOf, conditionOf}
 use Rattle.word.proofs.Every.{every, every-at}
 use Rattle.mnemonics.specs.declared.Kind.{Kind}
 use Rattle.mnemonics.specs.declared.Shown.{Shown}
-use Rattle.mnemonics.specs.Mnemonics.{table, rowOf, shownOf}
+use Rattle.mnemonics.specs.Mnemonics.{Fair, table, rowOf, shownOf, Fits}
 use Rattle.mnemonics.specs.Names.{names, nameOf, lettersIn}
 use Rattle.mnemonics.proofs.Laws.{firstBy, secondBy, kinds-by}
 
@@ -60,10 +60,6 @@ letters-some x =
 
 -- An operand's digits say every number below its bound, and are at most three.
 
-pub record Fair (k : Kind) : Type 0 where
-  pub few : k .digits < 4
-  pub fits : k .below ≤ 16 ^ (k .digits)
-
 abbrev fair : Kind → Bool
 fair k = both (ltb (k .digits) 4) (ltb (k .below) (16 ^ (k .digits) + 1))
 
@@ -81,17 +77,12 @@ pub kinds-fair : (n : ℕ) → n < 44 → Fair (rowOf n .first) × Fair (rowOf n
 kinds-fair n h =
     let z : 0 + n ≡ n = omega arith in
     let t =
-        both-true (fair (firstBy n)) (fair (secondBy n))
-        (rw z at (every-at (λ n. both (fair (firstBy n)) (fair (secondBy n))) 6 0 n all-fair (omega arith))) in
+    both-true (fair (firstBy n)) (fair (secondBy n))
+    (rw z at (every-at (λ n. both (fair (firstBy n)) (fair (secondBy n))) 6 0 n all-fair (omega arith))) in
     let k = kinds-by n h in
     (rw (← (k .0)) (is-fair (firstBy n) (t .0)), rw (← (k .1)) (is-fair (secondBy n) (t .1)))
 
 -- What a word shows.
-
-pub record Fits (s : Shown) : Type 0 where
-  pub row : s .row < 44
-  pub first : s .first < rowOf (s .row) .first .below
-  pub second : s .second < rowOf (s .row) .second .below
 
 abbrev fits : Shown → Bool
 fits s = both (ltb (s .row) 44) (both (ltb (s .first) (firstBy (s .row) .below)) (ltb (s .second) (secondBy (s .row) .below)))

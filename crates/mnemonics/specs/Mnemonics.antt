@@ -1,5 +1,5 @@
 -- The mnemonics of 003, section 17, in one table, each with the kinds of its operands in the sheet's order (02, P3), and what each word shows on paper.
-use Prim.Native.Nat.{ℕ, _+_, _*_}
+use Prim.Native.Nat.{ℕ, _+_, _*_, _^_, _<_, _≤_}
 use mathlib.Core.List.{List, [], _∷_}
 use lib.ListN.{getD}
 use Rattle.word.specs.declared.Decoded.{Decoded}
@@ -12,6 +12,11 @@ use Rattle.mnemonics.specs.declared.Shown.{Shown}
 -- A kind of operand: how many digits it has, and below which number it is (02, P3: "addresses three digits, bank included; others one").
 abbrev pub kind : ℕ → ℕ → Kind
 kind d b = record { digits = d; below = b }
+
+-- its digits say every number that it may be, and are at most three
+pub record Fair (k : Kind) : Type 0 where
+  pub few : k .digits < 4
+  pub fits : k .below ≤ 16 ^ (k .digits)
 
 abbrev pub none : Kind  -- no operand: no digits
 none = kind 0 1
@@ -194,3 +199,9 @@ instructionShown Nop = shown 42 0 0
 unfoldable pub shownOf : Decoded → Shown
 shownOf (Decoded.Listed i) = instructionShown i
 shownOf (Decoded.Refused why) = shown 43 0 0
+
+-- a row of the table, with numbers that its operands may be
+pub record Fits (s : Shown) : Type 0 where
+  pub row : s .row < 44
+  pub first : s .first < rowOf (s .row) .first .below
+  pub second : s .second < rowOf (s .row) .second .below
