@@ -17,7 +17,7 @@ use Rattle.mnemonics.specs.declared.Kind.{Kind}
 use Rattle.mnemonics.specs.declared.Shown.{Shown}
 use Rattle.mnemonics.specs.Mnemonics.{Fair, Fits, rowOf, shownOf}
 use Rattle.mnemonics.specs.Names.{nameOf, lettersIn}
-use Rattle.mnemonics.proofs.Rows.{row-letters, row-name, kinds-fair, word-fits}
+use Rattle.mnemonics.proofs.Rows.{row-letters, row-name, letters-some, kinds-fair, word-fits}
 use Rattle.line.specs.Line.{spacedOf, operandOf, operandIn, widthOf, operandsOf, lineOf, wordIn, goodOf}
 
 -- Lengths.
@@ -301,3 +301,18 @@ length-by w {s = s} {m = m} {u = u} {v = v} h e f g i j o q =
     let x : u ≡ widthOf (rowOf (s .row) .first) = rw (j, i) refl in
     let y : v ≡ widthOf (rowOf (s .row) .second) = rw (q, o) refl in
     omega (arith, operands-length s)
+
+-- no line is long
+pub line-few : (a w : ℕ) → w < 65536 → length (lineOf a w) < 24
+line-few a w h =
+    let s = shownOf (decodeOf w) in
+    let f = word-fits w h in
+    let k = kinds-fair (s .row) (f .row) in
+    omega (
+      arith, line-length a w, operands-length s, row-letters (s .row) (f .row), letters-some (nameOf (s .row)),
+      width-few (rowOf (s .row) .first) (k .0), width-few (rowOf (s .row) .second) (k .1),
+    )
+
+-- a line is as long at any address
+pub line-same : (a w : ℕ) → length (lineOf a w) ≡ length (lineOf 0 w)
+line-same a w = omega (arith, line-length a w, line-length 0 w)

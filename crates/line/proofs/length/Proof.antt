@@ -3,7 +3,7 @@ use native.Mathlib.Omega.{arith}
 use Prim.Native.Nat.{_<_}
 use Rattle.mnemonics.specs.Mnemonics.{Fits}
 use Rattle.mnemonics.proofs.Rows.{letters-some}
-use Rattle.line.proofs.Laws.{length-by, width-few, fair-first, fair-second, shown-fits}
+use Rattle.line.proofs.Laws.{length-by, line-few, width-few, fair-first, fair-second, shown-fits}
 use borrow.Author.Needs.{needs}
 use Rattle.line.proofs.length.Statement.{statement}
 use Rattle.line.proofs.length.Tie as tie
@@ -67,7 +67,9 @@ returns c =
     let f = u .before in
     let l = f .before in
     let h = l .before .before in
-    length-by _ (h .before .fits .w .fits) (h .show .ensures) (l .before .name .ensures) (l .letters .ensures) (f .first .ensures) (u .width .ensures) (d .second .ensures) (c .width2 .ensures)
+    let w = h .before in
+    let e = length-by (w .args .w) (w .fits .w .fits) (h .show .ensures) (l .before .name .ensures) (l .letters .ensures) (f .first .ensures) (u .width .ensures) (d .second .ensures) (c .width2 .ensures) in
+    (e, omega (arith, e, line-few 0 (w .args .w) (w .fits .w .fits)))
 
 pub length-spec : {M : Type 1} → statement M
 length-spec =

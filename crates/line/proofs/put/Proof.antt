@@ -1,6 +1,6 @@
 -- `line::put`: one behind the other.
 use native.Mathlib.Omega.{arith}
-use Rattle.line.proofs.Laws.{line-laid, shown-fits}
+use Rattle.line.proofs.Laws.{line-laid, line-few, shown-fits}
 use borrow.Author.Needs.{needs}
 use Rattle.line.proofs.put.Statement.{statement}
 use Rattle.line.proofs.put.Tie as tie
@@ -34,7 +34,10 @@ returns c =
     let i = c .before .before in
     let y = i .before .before .before .before in
     let x = y .before .before .before .before in
-    line-laid _ _ _ _ _ _ (x .before .before .show .ensures) (x .put-spaced .ensures) (y .put-spaced2 .ensures) (i .put-items .ensures)
+    let h = x .before .before in
+    let a = h .before .before in
+    let l = line-laid (a .args .a) (a .args .w) (a .args .p) _ _ _ (h .show .ensures) (x .put-spaced .ensures) (y .put-spaced2 .ensures) (i .put-items .ensures) in
+    ((l .0, omega (arith, l .0, line-few (a .args .a) (a .args .w) (a .fits .w .fits))), l .1)
 
 pub put-spec : {M : Type 1} → statement M
 put-spec =
