@@ -127,14 +127,14 @@ module _ (s : Shown) (t : List ℕ) (f : Fits s) where
       let y = operandOf l (s .second) in
       let t' = drop (widthOf k) t in
       let e : at (drop (length y) t') 0 ≡ at t (widthOf k + widthOf l) =
-          getD-drop (length y) t' 0 0 ∙ (getD-drop (widthOf k) t (length y + 0) 0 ∙ ap (at t) (omega (arith, operand-length l (s .second)))) in
+      getD-drop (length y) t' 0 0 ∙ (getD-drop (widthOf k) t (length y + 0) 0 ∙ ap (at t) (omega (arith, operand-length l (s .second)))) in
       begins-append x (y ++ (10 ∷ [])) t
       ∙ (ap (λ (b : Bool). both b (begins (y ++ (10 ∷ [])) (drop (length x) t))) (begins-operand k (s .first) t (fair .0) (f .first))
       ∙ ap (both (eqb (operandIn k t) (s .first)))
-          (ap (λ (n : ℕ). begins (y ++ (10 ∷ [])) (drop n t)) (operand-length k (s .first))
-          ∙ (begins-append y (10 ∷ []) t'
-          ∙ (ap (λ (b : Bool). both b (begins (10 ∷ []) (drop (length y) t'))) (begins-operand l (s .second) t' (fair .1) (f .second))
-          ∙ ap (both (eqb (operandIn l t') (s .second))) (begins-byte 10 (drop (length y) t') (omega arith) ∙ ap (λ (n : ℕ). eqb n 10) e)))))
+      (ap (λ (n : ℕ). begins (y ++ (10 ∷ [])) (drop n t)) (operand-length k (s .first))
+      ∙ (begins-append y (10 ∷ []) t'
+      ∙ (ap (λ (b : Bool). both b (begins (10 ∷ []) (drop (length y) t'))) (begins-operand l (s .second) t' (fair .1) (f .second))
+      ∙ ap (both (eqb (operandIn l t') (s .second))) (begins-byte 10 (drop (length y) t') (omega arith) ∙ ap (λ (n : ℕ). eqb n 10) e)))))
 
 -- THE LINE, part by part.
 pub begins-line : (a w : ℕ) (t : List ℕ) →
@@ -148,9 +148,9 @@ begins-line a w t =
     let y = begins (spacedOf 4 w) (drop 4 t) in
     begins-append (spacedOf 3 a) (spacedOf 4 w ++ r) t
     ∙ (ap (both x)
-        (ap (λ (n : ℕ). begins (spacedOf 4 w ++ r) (drop n t)) (spaced-length 3 a)
-        ∙ (begins-append (spacedOf 4 w) r (drop 4 t)
-        ∙ ap (both y) (ap (λ (n : ℕ). begins r (drop n (drop 4 t))) (spaced-length 4 w) ∙ ap (begins r) (drop-drop 5 4 t))))
+    (ap (λ (n : ℕ). begins (spacedOf 4 w ++ r) (drop n t)) (spaced-length 3 a)
+    ∙ (begins-append (spacedOf 4 w) r (drop 4 t)
+    ∙ ap (both y) (ap (λ (n : ℕ). begins r (drop n (drop 4 t))) (spaced-length 4 w) ∙ ap (begins r) (drop-drop 5 4 t))))
     ∙ sym (both-both x y (begins r (drop 9 t))))
 
 -- What each function that writes leaves.
@@ -309,8 +309,13 @@ line-few a w h =
     let f = word-fits w h in
     let k = kinds-fair (s .row) (f .row) in
     omega (
-      arith, line-length a w, operands-length s, row-letters (s .row) (f .row), letters-some (nameOf (s .row)),
-      width-few (rowOf (s .row) .first) (k .0), width-few (rowOf (s .row) .second) (k .1),
+      arith,
+      line-length a w,
+      operands-length s,
+      row-letters (s .row) (f .row),
+      letters-some (nameOf (s .row)),
+      width-few (rowOf (s .row) .first) (k .0),
+      width-few (rowOf (s .row) .second) (k .1),
     )
 
 -- a line is as long at any address

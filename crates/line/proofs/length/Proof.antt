@@ -17,8 +17,7 @@ sizes c =
     let u = d .before in
     let f = u .before in
     let l = f .before in
-    let h = l .before .before in
-    (
+    let h = l .before .before in (
       omega (arith, l .letters .ensures, letters-some (l .before .name .result)),
       (
         omega (arith, u .width .ensures, width-few _ (fair-first _ (fits h) (f .first .ensures))),

@@ -44,7 +44,10 @@ add-peek c =
     let d = w .before in
     let a = d .before .before .before in
     omega (
-      arith, w .width .ensures, c .width2 .ensures, a .pre .0,
+      arith,
+      w .width .ensures,
+      c .width2 .ensures,
+      a .pre .0,
       width-few _ (fair-first _ (a .pre .1) (d .before .first .ensures)),
       width-few _ (fair-second _ (a .pre .1) (d .second .ensures)),
     )

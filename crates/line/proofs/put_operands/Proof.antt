@@ -31,7 +31,10 @@ add-result c =
     let p = o .before .before .before .before .before in
     let a = p .before .before .before .before in
     omega (
-      arith, a .pre .0, p .put-operand .ensures .0, o .put-operand2 .ensures .0,
+      arith,
+      a .pre .0,
+      p .put-operand .ensures .0,
+      o .put-operand2 .ensures .0,
       operand-near _ (a .args .s .first) (fair-first _ (a .pre .1) (p .before .first .ensures)),
       operand-near _ (a .args .s .second) (fair-second _ (a .pre .1) (o .before .second .ensures)),
     )
