@@ -3,3 +3,4 @@ pub mod Lists
 pub mod Kept
 pub mod Leaves
 pub mod Back
+pub mod Paper

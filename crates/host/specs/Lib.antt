@@ -6,3 +6,4 @@ pub mod List
 pub mod Level
 pub mod Picture
 pub mod Books
+pub mod Listings

@@ -3,6 +3,7 @@ pub mod books;
 pub mod fresh;
 pub mod levels;
 pub mod list;
+pub mod listings;
 pub mod pictures;
 pub mod run;
 pub mod step;

@@ -41,9 +41,9 @@ loop-less c = omega arith
 loop-again : tie.Need-loop-again Inv-loop μ-loop
 loop-again c =
     let l = c .before .before .loop in
-    let w = c .before .before .before .args .words .now in
-    (
-      omega arith, length-set (l .room) (l .k) _ ∙ l .inv .1,
+    let w = c .before .before .before .args .words .now in (
+      omega arith,
+      length-set (l .room) (l .k) _ ∙ l .inv .1,
       laid-first (l .room) (l .k) _ (drop (l .k + 1) w) ∙ (ap (λ (s : List ℕ). laidOf (l .room) (l .k) s) (sym (drop-more w (l .k) (omega arith))) ∙ l .inv .2),
     )
 

@@ -47,9 +47,10 @@ loop-again : tie.Need-loop-again Inv-loop μ-loop
 loop-again c =
     let k = c .before .before in
     let l = k .before .before .before .before .loop in
-    let p = k .before .before .before .before .before .before .before .args .program .now in
-    (
-      omega arith, omega (arith, k .put .ensures .0 .1, l .inv .1), ap length (k .put .ensures .1) ∙ (laid-length (l .room) (l .p) _ ∙ l .inv .2),
+    let p = k .before .before .before .before .before .before .before .args .program .now in (
+      omega arith,
+      omega (arith, k .put .ensures .0 .1, l .inv .1),
+      ap length (k .put .ensures .1) ∙ (laid-length (l .room) (l .p) _ ∙ l .inv .2),
       fill-on p (l .a) (l .room) (l .p) (omega arith) (k .put .ensures .0 .0) (k .put .ensures .1) ∙ l .inv .3,
     )
 

@@ -89,9 +89,10 @@ loop-again c =
     let l = w .before .before .before .before .loop in
     let s = w .before .before .before .before .before .before .before in
     let g = good-on (s .args .text .now) (l .a) (l .p) (omega (arith, l .inv .2, s .pre)) (w .before .before .good2 .ensures) (w .before .if1 .left) (w .word .ensures) (c .length .ensures .0) in
-    let r = goodFrom (4096 - (l .a + 1)) (l .a + 1) (drop (l .p + c .length .result) (s .args .text .now)) in
-    (
-      omega (arith, l .inv .2, s .pre), omega (arith, l .inv .1, c .length .ensures .1), length-set (l .words) (l .a) _ ∙ l .inv .2,
+    let r = goodFrom (4096 - (l .a + 1)) (l .a + 1) (drop (l .p + c .length .result) (s .args .text .now)) in (
+      omega (arith, l .inv .2, s .pre),
+      omega (arith, l .inv .1, c .length .ensures .1),
+      length-set (l .words) (l .a) _ ∙ l .inv .2,
       omega (arith, l .inv .3, ap length g),
       omega (arith, l .inv .4, ap (λ (q : List ℕ). length (linesOf (l .a) q)) g, lines-on (l .a) (w .word .result) r, c .length .ensures .0),
       laid-first (l .words) (l .a) _ r ∙ (ap (laidOf (l .words) (l .a)) (sym g) ∙ l .inv .5),
