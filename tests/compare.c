@@ -1,7 +1,7 @@
 /* Compares galhoveia with the second emulator over the C boundary: answers, values, and every lent byte. Two parts, so
-   that they can run side by side: `calls` has every word, refusal, panel, list and listing, `runs` the random events, the
-   quiet stretches, and what single steps change. Prints its progress and, as its last line, how many comparisons passed and
-   failed. */
+   that they can run side by side: `calls` has every word, refusal, panel, list and listing, `runs` the random events,
+   the quiet stretches, and what single steps change. Prints its progress and, as its last line, how many comparisons
+   passed and failed. */
 #include "compare.h"
 #include "support.h"
 
