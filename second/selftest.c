@@ -2990,6 +2990,7 @@ static void lines_that_are_none(void)
         {0x022, "022 D042 RTNI\n"}, {0x022, "022 D042 DATA\n"},
         /* In the place of 020 CB7F DAA 07F */
         {0x020, "020 CB7F DAA 7F\n"}, {0x020, "020 CB7F DAS 07F\n"}, {0x020, "020 CB7F DAA 0FF\n"},
+        {0x020, "020 CB7F DAA 37F\n"},
         /* In the place of A34 8923 BNC 123: with PC11 as the line has it, with the word's bit 11, another branch */
         {0xA34, "A34 8923 BNC 923\n"}, {0xA34, "A34 8923 BNC 23\n"}, {0xA34, "A34 8923 BC 123\n"},
         {0xA34, "a34 8923 BNC 123\n"}, {0xA34, "A34 8123 BNC 123\n"}, {0xA34, "A34 8923 JMP 923\n"},
