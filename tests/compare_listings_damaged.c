@@ -293,8 +293,10 @@ static unsigned long damage_once(enum damage damage, unsigned line)
     case ADDED:
         add_byte(&damaged, at, other_than(whole.bytes[at]));
         return 1;
-    case LOWERED: /* the mnemonic's first letter, which every line has */
-        damaged.bytes[start + 9] |= 0x20;
+    case LOWERED: /* any of the line's letters; the mnemonic has some */
+        while (damaged.bytes[at] < 'A')
+            at = start + any((uint32_t)length);
+        damaged.bytes[at] |= 0x20;
         return 1;
     case BLANK_AT_END:
         add_byte(&damaged, start + length - 1, ' ');
