@@ -48,7 +48,7 @@ BENCH_LIB = build/bench/host.o
 endif
 
 CRATES = crates.txt $(wildcard crates/*/src/*.rt)
-SECOND = second/second.c second/search.c second/instruction.c
+SECOND = second/second.c second/search.c second/instruction.c second/listing.c
 DESK = $(wildcard desk/*.c)
 COMPARE = $(wildcard tests/compare*.c) tests/support.c tests/counting.c tests/machines.c tests/forms.c
 TEXT = tests/text.c desk/assembler.c desk/files.c desk/listing.c desk/refusal.c desk/texts.c
@@ -101,7 +101,7 @@ build/bench/objects/bench/sides.o: asked
 # A library that is measured, now and before, is linked at four offsets (bench/sides.h): what puts it there, and copies
 # of it whose calls have names of their own; everything else in a copy stays its own.
 OFFSETS = 0 1 2 3
-MEASURED = fresh run step list level picture
+MEASURED = fresh run step list level picture listing_write listing_read
 
 build/bench/offset%.o:
 	@mkdir -p $(dir $@)
@@ -178,7 +178,7 @@ test-sanitized: build/sanitized/desk build/sanitized/compare build/sanitized/tex
 	@ASAN_OPTIONS=detect_leaks=0:exitcode=99 UBSAN_OPTIONS=exitcode=99 tests/all.sh build/sanitized/text \
 	    "tests/desk.sh build/sanitized/desk $(FAULTY_DESKS)" \
 	    "build/native/trials build/trials" \
-	    "tests/clean.sh build/sanitized/compare calls --trials build/trials --machines 2 --cell-stride 200" \
+	    "tests/clean.sh build/sanitized/compare calls --trials build/trials --machines 2 --cell-stride 200 --text-stride 10" \
 	    "tests/clean.sh build/sanitized/compare runs --book $(BOOK) --events $(SANITIZED_EVENTS) --cell-stride 20"
 
 wrong:

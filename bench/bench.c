@@ -13,7 +13,7 @@
 
 enum {
     TURNS = 5 * OFFSETS, RUN_EVENTS = 2000000, STEPS = 40000, LISTED_CELLS = 40, LISTS = 40, SECOND_LISTS = 1, LEVELS = 40000,
-    PICTURES = 40000, OFTEN = 10, SELDOM = 100, LONGEST = 10000000, TIMED_AT_LEAST = 1000000
+    PICTURES = 40000, LISTINGS = 100, OFTEN = 10, SELDOM = 100, LONGEST = 10000000, TIMED_AT_LEAST = 1000000
 };
 
 static struct machine awake(void)
@@ -205,6 +205,62 @@ static void measure_pictures(const char *what)
     line(what, &times);
 }
 
+/* ---- Listings ---- */
+
+static int sides_with_listings(void)
+{
+    return sides > BEFORE && side_in(0, BEFORE)->listing_write == NULL ? BEFORE : sides;
+}
+
+static struct times measure_listings_written(const char *what, const uint8_t *program)
+{
+    static struct listing listing[SIDES_MOST];
+    struct times times = {0};
+
+    for (int turn = 0; turn < TURNS; turn++)
+        for (int at = 0; at < sides_with_listings(); at++) {
+            times.of[at][turn] = time_listings_written(side_in(turn, at), program, LISTINGS, &listing[at]);
+            same(what, &listing[GALHOVEIA], &listing[at], sizeof listing[at]);
+        }
+    line(what, &times);
+    return times;
+}
+
+static struct times measure_listings_read(const char *what, const uint8_t *program)
+{
+    static struct listing listing;
+    uint8_t read[GALHOVEIA_PROGRAM_BYTES];
+    struct times times = {0};
+
+    (void)time_listings_written(side_in(0, SECOND), program, 1, &listing);
+    for (int turn = 0; turn < TURNS; turn++)
+        for (int at = 0; at < sides_with_listings(); at++) {
+            times.of[at][turn] = time_listings_read(side_in(turn, at), &listing, LISTINGS, read);
+            same(what, program, read, sizeof read);
+        }
+    line(what, &times);
+    return times;
+}
+
+static void microseconds(const char *what, const struct times *times)
+{
+    printf("%-42s %14.1f %14.1f\n", what, 1e6 / speed(times, GALHOVEIA), 1e6 / speed(times, SECOND));
+}
+
+static void measure_listings(const uint8_t *forms, const uint8_t *example)
+{
+    struct times forms_written = measure_listings_written("listing written: all forms, listings", forms);
+    struct times forms_read = measure_listings_read("listing read: all forms, listings", forms);
+    struct times example_written = measure_listings_written("listing written: the example, listings", example);
+    struct times example_read = measure_listings_read("listing read: the example, listings", example);
+
+    printf("%-42s %14s %14s\n", "listings (microseconds a call)", "galhoveia", "second");
+    microseconds("listing written: all forms", &forms_written);
+    microseconds("listing read: all forms", &forms_read);
+    microseconds("listing written: the example", &example_written);
+    microseconds("listing read: the example", &example_read);
+}
+
 /* ---- How the time grows ---- */
 
 static double time_length(int turn, struct load load, size_t length)
@@ -237,7 +293,8 @@ static void measure_lengths(const char *what, struct load load)
 int main(void)
 {
     static uint8_t nops[GALHOVEIA_PROGRAM_BYTES], mixture[GALHOVEIA_PROGRAM_BYTES], calls[GALHOVEIA_PROGRAM_BYTES],
-        example[GALHOVEIA_PROGRAM_BYTES], general[GALHOVEIA_PROGRAM_BYTES], writers[GALHOVEIA_PROGRAM_BYTES];
+        example[GALHOVEIA_PROGRAM_BYTES], general[GALHOVEIA_PROGRAM_BYTES], writers[GALHOVEIA_PROGRAM_BYTES],
+        forms[GALHOVEIA_PROGRAM_BYTES];
     static uint8_t cycles[LONGEST], mixture_pins[RUN_EVENTS], calls_pins[RUN_EVENTS], example_keys[RUN_EVENTS],
         sound[RUN_EVENTS];
 
@@ -251,6 +308,7 @@ int main(void)
     cycles_and_sound(sound, RUN_EVENTS);
     general_words(general);
     only_writers(writers, 0x020);
+    all_forms(forms);
 
     heading();
     measure_run("run: NOPs, events", (struct load){nops, cycles}, awake());
@@ -268,6 +326,7 @@ int main(void)
     measure_lists("list: every word names the cell, lists", writers, 1);
     measure_levels("level, levels");
     measure_pictures("picture, 240 elements, pictures");
+    measure_listings(forms, example);
     printf("The second emulator lists by trial, so that its lists tell nothing of speed.\n");
     measure_lengths("run: how the time grows, mixed program: events in a run, ns an event",
                     (struct load){mixture, cycles});

@@ -7,8 +7,9 @@
 
 enum {
     LDA = 7 << 11, STA = LDA | 1 << 10, ANDIM = 14 << 11, LDI = 15 << 11, CALL = 0xC000, DAA = 0xCB00, DAS = 0xCD00,
-    RTNW = 0xD000, RTNI = 0xD400, JMP = 0xE000, SHR = 0xF000, TJMP = 0xF7FF, NOP = 0xFFFF
+    RTNW = 0xD000, RTNI = 0xD400, HALT = 0xD800, STOP = 0xDC00, JMP = 0xE000, SHR = 0xF000, TJMP = 0xF7FF, NOP = 0xFFFF
 };
+enum { UNLISTED = 0xC800, UNLISTED_WORDS = 0x300 }; /* those behind CALL */
 enum {
     IE = 0x000, IRQ = 0x001, TM0 = 0x002, TL0 = 0x004, TH0 = 0x005, PORTA = 0x008, PORTB = 0x009, PORTC = 0x00A,
     PORTD = 0x00B, TBR = 0x00E, INX = 0x00F, DPL = 0x010, DPM = 0x011, DPH = 0x012, PDCR = 0x019, RDT0 = 0x01A,
@@ -21,7 +22,7 @@ enum {
 
 /* Each program begins its draws anew, so that it does not hang on what was made before it; its script goes on with
    them. */
-enum { MIXED_SEED = 67, CALLS_SEED = 54, PANEL_SEED = 6754 };
+enum { MIXED_SEED = 67, CALLS_SEED = 54, FORMS_SEED = 17, PANEL_SEED = 6754 };
 
 static uint32_t seed;
 
@@ -210,6 +211,34 @@ void calls_and_registers(uint8_t *program)
         put(program, address, routine_word(address));
     put_table(program);
     put(program, SUBROUTINE, RTNI);
+}
+
+/* ---- Every form ---- */
+
+/* The words of each form behind the 32 that bits 15 to 10 or 11 choose, unlisted ones last: the first and how many. */
+static const struct {
+    unsigned first, words;
+} forms[] = {{CALL, 2048}, {DAA, 128}, {DAS, 128}, {RTNW, 256}, {RTNI, 1}, {HALT, 1},  {STOP, 1},
+             {JMP, 4096},  {SHR, 1},   {TJMP, 1},  {NOP, 1},    {UNLISTED, UNLISTED_WORDS}};
+
+static unsigned any_form(void)
+{
+    enum { BANKED = 16, OTHERS = 16, LAST = sizeof forms / sizeof forms[0] };
+    unsigned form = any(BANKED + OTHERS + LAST);
+
+    if (form < BANKED)
+        return form << 10 | any(1 << 10);
+    if (form < BANKED + OTHERS)
+        return (form - BANKED + 8) << 11 | any(1 << 11);
+    form -= BANKED + OTHERS;
+    return forms[form].first + any(forms[form].words);
+}
+
+void all_forms(uint8_t *program)
+{
+    seed = FORMS_SEED;
+    for (unsigned address = 0; address < GALHOVEIA_WORDS; address++)
+        put(program, address, any_form());
 }
 
 /* ---- Scripts ---- */

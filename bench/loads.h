@@ -11,6 +11,7 @@ void only_writers(uint8_t *program, unsigned cell); /* every word stores to the 
 void general_words(uint8_t *program);               /* every word needs the general event */
 void mixed(uint8_t *program);
 void calls_and_registers(uint8_t *program);
+void all_forms(uint8_t *program);                   /* every mnemonic and unlisted words, each as often as another */
 
 void only_cycles(uint8_t *script, size_t events);
 

@@ -95,3 +95,29 @@ double time_pictures(const struct side *side, const struct machine *machine, con
              "a picture");
     return (now() - start) / (double)times;
 }
+
+double time_listings_written(const struct side *side, const uint8_t *program, size_t times, struct listing *listing)
+{
+    uint64_t value;
+    double start = now(), time;
+
+    for (size_t at = 0; at < times; at++)
+        must(side->listing_write(program, GALHOVEIA_PROGRAM_BYTES, listing->text, sizeof listing->text,
+                                 &listing->length, &value) == 0,
+             "a listing");
+    time = (now() - start) / (double)times;
+    memset(listing->text + listing->length, 0, sizeof listing->text - listing->length);
+    return time;
+}
+
+double time_listings_read(const struct side *side, const struct listing *listing, size_t times,
+                          uint8_t program[GALHOVEIA_PROGRAM_BYTES])
+{
+    uint64_t value;
+    double start = now();
+
+    for (size_t at = 0; at < times; at++)
+        must(side->listing_read(listing->text, listing->length, program, GALHOVEIA_PROGRAM_BYTES, &value) == 0,
+             "reading a listing");
+    return (now() - start) / (double)times;
+}

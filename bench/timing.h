@@ -36,4 +36,14 @@ double time_levels(const struct side *side, const struct machine *machine, const
 double time_pictures(const struct side *side, const struct machine *machine, const uint8_t *wiring, size_t times,
                      struct shown *shown);
 
+/* A program as text. */
+struct listing {
+    uint64_t length;
+    uint8_t text[GALHOVEIA_LISTING_BYTES_MOST];
+};
+
+double time_listings_written(const struct side *side, const uint8_t *program, size_t times, struct listing *listing);
+double time_listings_read(const struct side *side, const struct listing *listing, size_t times,
+                          uint8_t program[GALHOVEIA_PROGRAM_BYTES]);
+
 #endif

@@ -14,6 +14,9 @@
 #define SECOND_TONES         2
 #define SECOND_RECORD_BYTES  45
 
+/* A listing of 4,096 lines, each as long as the longest: 011 68A0 EORIM 020 1 and its line feed. */
+#define SECOND_LISTING_BYTES_MOST (21 * SECOND_WORDS)
+
 enum second_reason { SECOND_AT_ADDRESS = 0, SECOND_AT_UNLISTED = 1, SECOND_AT_END = 2 };
 enum second_mode { SECOND_RUNNING = 0, SECOND_HALT = 1, SECOND_STOP = 2 };
 
@@ -50,6 +53,12 @@ uint32_t second_book_read(const uint8_t *book, size_t book_len, uint64_t *progra
 uint32_t second_book_write(const uint8_t *program, size_t program_len, const uint8_t *wiring, size_t wiring_len,
                            const uint8_t *level, size_t level_len, uint8_t *book, size_t room,
                            uint64_t *count, uint64_t *value);
+
+/* Programs as text, one line for each word (listing.c). */
+uint32_t second_listing_write(const uint8_t *program, size_t program_len, uint8_t *text, size_t room,
+                              uint64_t *count, uint64_t *value);
+
+uint32_t second_listing_read(const uint8_t *text, size_t text_len, uint8_t *program, size_t room, uint64_t *value);
 
 /* One sound channel: the clocks left up to the next turn of its output, and the output. */
 struct second_tone {

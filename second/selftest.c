@@ -2827,6 +2827,342 @@ static void books(void)
     is("beyond", book[length], 0xEE);
 }
 
+/* ---- Listings ---- */
+
+/* A line for each mnemonic, and for words around the ranges that 01 prints, each worked out from 01's ranges and 003's
+   patterns; the first eight are the examples of the request. */
+static const struct {
+    unsigned address, word;
+    const char *line;
+} lines[] = {
+    {0x013, 0x3CA0, "013 3CA0 STA 0A0\n"},   {0x011, 0x48A0, "011 48A0 ADIM 020 1\n"},
+    {0x020, 0xCB7F, "020 CB7F DAA 07F\n"},   {0xA34, 0x8923, "A34 8923 BNC 123\n"},
+    {0x026, 0xEABC, "026 EABC JMP ABC\n"},   {0x022, 0xD042, "022 D042 RTNW 4 2\n"},
+    {0xFFF, 0xFFFF, "FFF FFFF NOP\n"},       {0x029, 0xCB80, "029 CB80 DATA\n"},
+
+    {0x000, 0x0000, "000 0000 ADC 000\n"},   {0x001, 0x07FF, "001 07FF ADCM 3FF\n"},
+    {0x002, 0x0B00, "002 0B00 ADD 300\n"},   {0x003, 0x0C0F, "003 0C0F ADDM 00F\n"},
+    {0x004, 0x1080, "004 1080 SBC 080\n"},   {0x005, 0x17FF, "005 17FF SBCM 3FF\n"},
+    {0x006, 0x1801, "006 1801 SUB 001\n"},   {0x007, 0x1C7F, "007 1C7F SUBM 07F\n"},
+    {0x008, 0x216D, "008 216D EOR 16D\n"},   {0x009, 0x2748, "009 2748 EORM 348\n"},
+    {0x00A, 0x2AAA, "00A 2AAA OR 2AA\n"},    {0x00B, 0x2D55, "00B 2D55 ORM 155\n"},
+    {0x00C, 0x3358, "00C 3358 AND 358\n"},   {0x00D, 0x3400, "00D 3400 ANDM 000\n"},
+    {0x00E, 0x3BFF, "00E 3BFF LDA 3FF\n"},   {0x00F, 0x3FFF, "00F 3FFF STA 3FF\n"},
+    {0x010, 0x4000, "010 4000 ADI 000 0\n"}, {0x012, 0x4FFF, "012 4FFF ADIM 07F F\n"},
+    {0x014, 0x5080, "014 5080 SBI 000 1\n"}, {0x015, 0x5C20, "015 5C20 SBIM 020 8\n"},
+    {0x016, 0x68A0, "016 68A0 ORIM 020 1\n"}, {0x017, 0x60A0, "017 60A0 EORIM 020 1\n"},
+    {0x018, 0x7701, "018 7701 ANDIM 001 E\n"}, {0x019, 0x7FFF, "019 7FFF LDI 07F F\n"},
+    {0x01A, 0x87FF, "01A 87FF BNZ 7FF\n"},   {0x01B, 0x9000, "01B 9000 BAZ 000\n"},
+    {0x01C, 0x9C00, "01C 9C00 BC 400\n"},    {0x01D, 0xA0AB, "01D A0AB BA0 0AB\n"},
+    {0x01E, 0xAFFF, "01E AFFF BA1 7FF\n"},   {0x01F, 0xB234, "01F B234 BA2 234\n"},
+    {0x021, 0xBFFE, "021 BFFE BA3 7FE\n"},   {0x800, 0xC7FF, "800 C7FF CALL 7FF\n"},
+    {0x801, 0xC000, "801 C000 CALL 000\n"},  {0x802, 0xCB00, "802 CB00 DAA 000\n"},
+    {0x803, 0xCD00, "803 CD00 DAS 000\n"},   {0x804, 0xCD7F, "804 CD7F DAS 07F\n"},
+    {0x805, 0xD000, "805 D000 RTNW 0 0\n"},  {0x806, 0xD0FE, "806 D0FE RTNW F E\n"},
+    {0x807, 0xD400, "807 D400 RTNI\n"},      {0x808, 0xD800, "808 D800 HALT\n"},
+    {0x809, 0xDC00, "809 DC00 STOP\n"},      {0x80A, 0xE000, "80A E000 JMP 000\n"},
+    {0x80B, 0xEFFF, "80B EFFF JMP FFF\n"},   {0x80C, 0xF000, "80C F000 SHR\n"},
+    {0x80D, 0xF7FF, "80D F7FF TJMP\n"},      {0x80E, 0xC800, "80E C800 DATA\n"},
+    {0x80F, 0xCAFF, "80F CAFF DATA\n"},      {0x810, 0xCCFF, "810 CCFF DATA\n"},
+    {0x811, 0xCD80, "811 CD80 DATA\n"},      {0x812, 0xD100, "812 D100 DATA\n"},
+    {0x813, 0xD401, "813 D401 DATA\n"},      {0x814, 0xD7FF, "814 D7FF DATA\n"},
+    {0x815, 0xDFFF, "815 DFFF DATA\n"},      {0x816, 0xF001, "816 F001 DATA\n"},
+    {0x817, 0xF7FE, "817 F7FE DATA\n"},      {0xFFE, 0xFFFE, "FFE FFFE DATA\n"},
+};
+
+enum { LINES = sizeof lines / sizeof lines[0], PAPER = 4096 * 21, AROUND = 16 };
+
+static uint8_t paper[PAPER + AROUND], read_back[8192 + AROUND];
+static uint64_t written;
+
+/* Where the line of each address begins, and behind the last where the text ends. */
+static size_t begins[4097];
+
+/* A program of NOPs with the lines' words in it, written to the paper. The line of a NOP has 13 bytes: FFF FFFF NOP and
+   its line feed. */
+static void write_lines(void)
+{
+    size_t at = 0;
+
+    memset(program, 0xFF, sizeof program);
+    for (unsigned address = 0; address < 4096; address++)
+        begins[address + 1] = 13;
+    for (int line = 0; line < LINES; line++) {
+        put(lines[line].address, lines[line].word);
+        begins[lines[line].address + 1] = strlen(lines[line].line);
+    }
+    for (unsigned address = 0; address <= 4096; address++)
+        begins[address] = at += begins[address];
+    memset(paper, 0xEE, sizeof paper);
+    written = 99;
+    is("writing", second_listing_write(program, sizeof program, paper, sizeof paper, &written, &told), 0);
+}
+
+static void one_line_for_each(void)
+{
+    char nop[14];
+    unsigned wrong = 0;
+
+    from("02 P3: every line, address, word, mnemonic, operands");
+    write_lines();
+    is("told", (long long)told, 0);
+    is("written", (long long)written, (long long)begins[4096]);
+    for (int line = 0; line < LINES; line++)
+        is(lines[line].line, memcmp(paper + begins[lines[line].address], lines[line].line, strlen(lines[line].line)), 0);
+    for (unsigned address = 0; address < 4096; address++) {
+        snprintf(nop, sizeof nop, "%03X FFFF NOP\n", address);
+        if (program[2 * address] == 0xFF && program[2 * address + 1] == 0xFF)
+            wrong += memcmp(paper + begins[address], nop, 13) != 0;
+    }
+    is("lines of NOP that are wrong", wrong, 0);
+    from("02 P3: what is written reads back equal");
+    memset(read_back, 0xEE, sizeof read_back);
+    is("reading", second_listing_read(paper, written, read_back, sizeof read_back, &told), 0);
+    is("told", (long long)told, 0);
+    is("the words", memcmp(read_back, program, sizeof program), 0);
+    for (int at = 8192; at < 8192 + AROUND; at++)
+        is("the room beyond", read_back[at], 0xEE);
+}
+
+/* A text that is refused leaves the room and tells the number of its good lines. */
+static void is_refused(const char *what, const uint8_t *text, size_t length, unsigned good)
+{
+    unsigned changed = 0;
+
+    memset(read_back, 0xEE, sizeof read_back);
+    told = 12345;
+    is(what, second_listing_read(text, length, read_back, sizeof read_back, &told), 26);
+    is(what, (long long)told, good);
+    for (size_t at = 0; at < sizeof read_back; at++)
+        changed += read_back[at] != 0xEE;
+    is("bytes that a refused text changed", changed, 0);
+}
+
+/* The paper with something else in the place of the line of an address. */
+static uint8_t other[PAPER + 64];
+
+static size_t with_line(unsigned address, const char *line)
+{
+    size_t length = strlen(line), rest = begins[4096] - begins[address + 1];
+
+    memcpy(other, paper, begins[address]);
+    memcpy(other + begins[address], line, length);
+    memcpy(other + begins[address] + length, paper + begins[address + 1], rest);
+    return begins[address] + length + rest;
+}
+
+static void lines_that_are_none(void)
+{
+    static const struct {
+        unsigned address;
+        const char *line;
+    } bad[] = {
+        /* In the place of 013 3CA0 STA 0A0: blanks, line ends, case, marks */
+        {0x013, "013 3CA0 STA 0A0\r\n"}, {0x013, "013 3CA0 STA 0A0 \n"}, {0x013, " 013 3CA0 STA 0A0\n"},
+        {0x013, "013  3CA0 STA 0A0\n"}, {0x013, "013 3CA0  STA 0A0\n"}, {0x013, "013 3CA0 STA  0A0\n"},
+        {0x013, "013\t3CA0 STA 0A0\n"}, {0x013, "0133CA0 STA 0A0\n"}, {0x013, "013 3CA0STA 0A0\n"},
+        {0x013, "013 3CA0 STA0A0\n"}, {0x013, "013 3CA0 STA 0A0"}, {0x013, "013 3CA0 STA 0A0\v"}, {0x013, "\n"},
+        {0x013, ""}, {0x013, "\n013 3CA0 STA 0A0\n"}, {0x013, "013 3ca0 STA 0A0\n"}, {0x013, "013 3CA0 sta 0A0\n"},
+        {0x013, "013 3CA0 STA 0a0\n"}, {0x013, "013 3CA0 STA $0A0\n"}, {0x013, "$013 3CA0 STA 0A0\n"},
+        {0x013, "013 $3CA0 STA 0A0\n"}, {0x013, "013 3CA0 STA, 0A0\n"}, {0x013, "013 3CA0 STA 0A0,\n"},
+        {0x013, "013 3CA0 STA 0A0 ; the level\n"}, {0x013, "013: 3CA0 STA 0A0\n"},
+        /* ... the bank's digit lost, another cell, another word, another mnemonic, another address */
+        {0x013, "013 3CA0 STA 020\n"}, {0x013, "013 3CA0 STA A0\n"}, {0x013, "013 3CA0 STA 00A0\n"},
+        {0x013, "013 3CA0 STA 020 1\n"}, {0x013, "013 3CA0 STA 1 020\n"}, {0x013, "013 3CA0 STA 0A1\n"},
+        {0x013, "013 3CA1 STA 0A0\n"}, {0x013, "013 3CA0 LDA 0A0\n"}, {0x013, "013 38A0 STA 0A0\n"},
+        {0x013, "013 3CA0 STA 4A0\n"}, {0x013, "013 40A0 STA 0A0\n"}, {0x013, "013 3CA0 STAM 0A0\n"},
+        {0x013, "013 3CA0 ST 0A0\n"}, {0x013, "013 3CA0 XYZ 0A0\n"}, {0x013, "013 3CA0 STA 0G0\n"},
+        {0x013, "013 3CA0 STA\n"}, {0x013, "013 3CA0 STA \n"}, {0x013, "013 3CA0\n"}, {0x013, "013 3CA0 \n"},
+        {0x013, "013\n"}, {0x013, "012 3CA0 STA 0A0\n"}, {0x013, "014 3CA0 STA 0A0\n"}, {0x013, "13 3CA0 STA 0A0\n"},
+        {0x013, "0013 3CA0 STA 0A0\n"}, {0x013, "013 3CA STA 0A0\n"}, {0x013, "013 03CA0 STA 0A0\n"},
+        {0x013, "3CA0 013 STA 0A0\n"}, {0x013, "013 3CA0 0A0 STA\n"}, {0x013, "013 3CA0 DATA\n"},
+        {0x013, "013 3CA0 DATA 0A0\n"},
+        /* In the place of 011 48A0 ADIM 020 1: the word's order, digits too few and too many */
+        {0x011, "011 48A0 ADIM 1 020\n"}, {0x011, "011 48A0 ADIM 001 20\n"}, {0x011, "011 48A0 ADIM 20 1\n"},
+        {0x011, "011 48A0 ADIM 020 01\n"}, {0x011, "011 48A0 ADIM 020, 1\n"}, {0x011, "011 48A0 ADIM 020\n"},
+        {0x011, "011 48A0 ADIM 0A0 1\n"}, {0x011, "011 48A0 ADIM 0A0 0\n"}, {0x011, "011 48A0 ADIM 0A0\n"},
+        {0x011, "011 48A0 ADIM 021 1\n"}, {0x011, "011 48A0 ADIM 020 2\n"}, {0x011, "011 48A0 ADI 020 1\n"},
+        {0x011, "011 48A0 ADIM 020 1 \n"}, {0x011, "011 48A0 ADIM 020 1 0\n"}, {0x011, "011 48A0 ADIM 020  1\n"},
+        {0x011, "011 48A0 ADIM 0201\n"}, {0x011, "011 48A0 DATA\n"}, {0x011, "011 48A0 ADIM 020 G\n"},
+        /* In the place of 022 D042 RTNW 4 2 */
+        {0x022, "022 D042 RTNW 2 4\n"}, {0x022, "022 D042 RTNW 42\n"}, {0x022, "022 D042 RTNW 042\n"},
+        {0x022, "022 D042 RTNW 4\n"}, {0x022, "022 D042 RTNW 4, 2\n"}, {0x022, "022 D042 RTNW 004 002\n"},
+        {0x022, "022 D042 RTNI\n"}, {0x022, "022 D042 DATA\n"},
+        /* In the place of 020 CB7F DAA 07F */
+        {0x020, "020 CB7F DAA 7F\n"}, {0x020, "020 CB7F DAS 07F\n"}, {0x020, "020 CB7F DAA 0FF\n"},
+        {0x020, "020 CB7F DAA 37F\n"},
+        /* In the place of A34 8923 BNC 123: with PC11 as the line has it, with the word's bit 11, another branch */
+        {0xA34, "A34 8923 BNC 923\n"}, {0xA34, "A34 8923 BNC 23\n"}, {0xA34, "A34 8923 BC 123\n"},
+        {0xA34, "a34 8923 BNC 123\n"}, {0xA34, "A34 8123 BNC 123\n"}, {0xA34, "A34 8923 JMP 923\n"},
+        /* In the place of 026 EABC JMP ABC */
+        {0x026, "026 EABC JMP 2BC\n"}, {0x026, "026 EABC JMP ABC 0\n"}, {0x026, "026 EABC CALL 2BC\n"},
+        /* In the place of 029 CB80 DATA */
+        {0x029, "029 CB80 DAA 080\n"}, {0x029, "029 CB80 DAA 000\n"}, {0x029, "029 CB80 data\n"},
+        {0x029, "029 CB80 DAT\n"}, {0x029, "029 CB80 DATAA\n"}, {0x029, "029 CB80 DATA0\n"}, {0x029, "029 CB80 NOP\n"},
+        {0x029, "029 CB80 DATA \n"}, {0x029, "029 CB80 DATA 080\n"}, {0x029, "029 CB80\n"}, {0x029, "029 CB00 DATA\n"},
+        /* In the place of FFF FFFF NOP */
+        {0xFFF, "FFF FFFF NOP 000\n"}, {0xFFF, "FFF FFFF NOP \n"}, {0xFFF, "FFF FFFF NOP\r\n"},
+        {0xFFF, "FFF FFFF DATA\n"}, {0xFFF, "FFF FFFF NOP"}, {0xFFF, "FFF FFFF TJMP\n"}, {0xFFF, "FFF F7FF NOP\n"},
+        {0xFFF, "000 FFFF NOP\n"}, {0xFFF, "FFFF FFF NOP\n"}, {0xFFF, "FFF FFFE NOP\n"},
+    };
+
+    from("02 P3: a text is accepted only if it is what the writer gives");
+    for (size_t at = 0; at < sizeof bad / sizeof bad[0]; at++)
+        is_refused(bad[at].line, other, with_line(bad[at].address, bad[at].line), bad[at].address);
+    is_refused("a line twice", other, with_line(0x013, "013 3CA0 STA 0A0\n013 3CA0 STA 0A0\n"), 0x014);
+    is_refused("an empty line behind a line", other, with_line(0x013, "013 3CA0 STA 0A0\n\n"), 0x014);
+    is_refused("two lines swapped", other, with_line(0x013, "014 5080 SBI 000 1\n013 3CA0 STA 0A0\n"), 0x013);
+}
+
+static void lines_of_other_programs(void)
+{
+    static const struct {
+        unsigned address, word;
+        const char *line;
+    } good[] = {
+        {0x013, 0x3CA1, "013 3CA1 STA 0A1\n"},     {0x013, 0x38A0, "013 38A0 LDA 0A0\n"},
+        {0x013, 0x60A0, "013 60A0 EORIM 020 1\n"}, {0x013, 0xD400, "013 D400 RTNI\n"},
+        {0x029, 0xCB81, "029 CB81 DATA\n"},        {0x029, 0xCB7F, "029 CB7F DAA 07F\n"},
+        {0xFFF, 0xF7FF, "FFF F7FF TJMP\n"},        {0xFFF, 0xFFFE, "FFF FFFE DATA\n"},
+    };
+
+    from("02 P3: what the writer gives for another program");
+    for (size_t at = 0; at < sizeof good / sizeof good[0]; at++) {
+        size_t length = with_line(good[at].address, good[at].line);
+        uint8_t keeps[2] = {program[2 * good[at].address], program[2 * good[at].address + 1]};
+
+        is(good[at].line, second_listing_read(other, length, read_back, sizeof read_back, &told), 0);
+        put(good[at].address, good[at].word);
+        is(good[at].line, memcmp(read_back, program, sizeof program), 0);
+        memcpy(program + 2 * good[at].address, keeps, 2);
+    }
+}
+
+/* Cut at every byte of some lines, and with something behind the last. */
+static void cut_and_longer_texts(void)
+{
+    static const unsigned cut_in[] = {0, 1, 0x011, 0x013, 0x022, 0x7FF, 0x800, 0xFFE, 0xFFF};
+
+    from("02 P3: 26 with the first bad line, counted from 0");
+    is_refused("an empty text", paper, 0, 0);
+    for (size_t at = 0; at < sizeof cut_in / sizeof cut_in[0]; at++)
+        for (size_t length = begins[cut_in[at]]; length < begins[cut_in[at] + 1]; length++)
+            is_refused("a cut text", paper, length, cut_in[at]);
+    is_refused("without the last line feed", paper, begins[4096] - 1, 4095);
+    for (unsigned byte = 0; byte < 256; byte++) {
+        memcpy(other, paper, begins[4096]);
+        other[begins[4096]] = (uint8_t)byte;
+        is_refused("a byte behind the last line", other, begins[4096] + 1, 4096);
+    }
+    memcpy(other + begins[4096], "1000 FFFF NOP\n", 14);
+    is_refused("a line too many", other, begins[4096] + 14, 4096);
+    memcpy(other + begins[4096], "000 FFFF NOP\n", 13);
+    is_refused("the first line again", other, begins[4096] + 13, 4096);
+}
+
+/* The longest listing and the shortest, by the lengths of the longest and the shortest line. */
+static void listing_lengths(void)
+{
+    from("02 P3: lengths");
+    for (unsigned address = 0; address < 4096; address++)
+        put(address, 0x60A0);
+    is("4,096 EORIM", second_listing_write(program, sizeof program, paper, PAPER, &written, &told), 0);
+    is("their bytes", (long long)written, 4096 * 21);
+    memset(program, 0xFF, sizeof program);
+    is("4,096 NOPs", second_listing_write(program, sizeof program, paper, PAPER, &written, &told), 0);
+    is("their bytes", (long long)written, 4096 * 13);
+}
+
+static void listing_refusals(void)
+{
+    static const size_t lengths[] = {0, 1, 4096, 8190, 8191, 8193, 8194, 16384};
+    static const size_t write_rooms[] = {0, 1, 13, 8192, 50000}, read_rooms[] = {0, 1, 4096, 8190, 8191};
+    static uint8_t longer[16384];
+    unsigned changed = 0;
+    size_t length;
+
+    from("02 P3: 1, then 7 with this listing's own length");
+    write_lines();
+    length = begins[4096];
+    memset(other, 0xEE, sizeof other);
+    written = 99;
+    for (size_t at = 0; at < sizeof lengths / sizeof lengths[0]; at++)
+        for (size_t room = 0; room <= PAPER; room += PAPER) {
+            is("a wrong length", second_listing_write(longer, lengths[at], other, room, &written, &told), 1);
+            is("told", (long long)told, (long long)lengths[at]);
+        }
+    for (size_t at = 0; at < sizeof write_rooms / sizeof write_rooms[0]; at++) {
+        is("too little room", second_listing_write(program, sizeof program, other, write_rooms[at], &written, &told), 7);
+        is("told", (long long)told, (long long)length);
+    }
+    is("one byte short", second_listing_write(program, sizeof program, other, length - 1, &written, &told), 7);
+    is("told", (long long)told, (long long)length);
+    is("the count of a refused call", (long long)written, 99);
+    for (size_t at = 0; at < sizeof other; at++)
+        changed += other[at] != 0xEE;
+    is("bytes that refused calls changed", changed, 0);
+    is("room enough", second_listing_write(program, sizeof program, other, length, &written, &told), 0);
+    is("told", (long long)told, 0);
+    is("written", (long long)written, (long long)length);
+    is("the text", memcmp(other, paper, length), 0);
+    is("the byte behind", other[length], 0xEE);
+    is("more room", second_listing_write(program, sizeof program, other, length + 9, &written, &told), 0);
+    for (size_t at = length; at < length + 9; at++)
+        is("the room beyond", other[at], 0xEE);
+
+    from("02 P3: 26, then 7 with the room for 4,096 words");
+    memset(read_back, 0xEE, sizeof read_back);
+    for (size_t at = 0; at < sizeof read_rooms / sizeof read_rooms[0]; at++) {
+        is("too little room", second_listing_read(paper, length, read_back, read_rooms[at], &told), 7);
+        is("told", (long long)told, 8192);
+        is("26 first", second_listing_read(paper, length - 1, read_back, read_rooms[at], &told), 26);
+        is("told", (long long)told, 4095);
+    }
+    for (size_t at = 0; at < sizeof read_back; at++)
+        changed += read_back[at] != 0xEE;
+    is("bytes that refused calls changed", changed, 0);
+    is("room enough", second_listing_read(paper, length, read_back, 8192, &told), 0);
+    is("told", (long long)told, 0);
+    is("the words", memcmp(read_back, program, sizeof program), 0);
+    is("the byte behind", read_back[8192], 0xEE);
+}
+
+/* Each of the 65,536 words in the first line, as DATA and as the writer writes it. */
+static void every_word_on_paper(void)
+{
+    unsigned as_data = 0, as_written = 0;
+
+    from("01 Instruction words: 55,814 listed, 9,722 unlisted");
+    write_lines();
+    for (unsigned word = 0; word <= 0xFFFF; word++) {
+        char line[16];
+        uint8_t first[2] = {(uint8_t)(word >> 8), (uint8_t)word};
+
+        snprintf(line, sizeof line, "000 %04X DATA\n", word);
+        (void)second_listing_read((const uint8_t *)line, 14, read_back, sizeof read_back, &told);
+        as_data += told == 1;
+        memcpy(program, first, 2);
+        if (word % 16 != 0 && word < 0xC000)
+            continue;
+        (void)second_listing_write(program, sizeof program, other, PAPER, &written, &told);
+        (void)second_listing_read(other, 22, read_back, sizeof read_back, &told);
+        as_written += told == 1;
+    }
+    is("words that can be DATA", as_data, 9722);
+    is("words that read as they are written", as_written, 0xC000 / 16 + 0x4000);
+}
+
+static void listings(void)
+{
+    one_line_for_each();
+    lines_that_are_none();
+    lines_of_other_programs();
+    cut_and_longer_texts();
+    listing_refusals();
+    listing_lengths();
+    every_word_on_paper();
+}
+
 /* ---- Many programs ---- */
 
 static uint32_t seed = 1;
@@ -2964,6 +3300,7 @@ int main(void)
     levels();
     pictures();
     books();
+    listings();
     many_programs();
     printf("%lu passed, %lu failed\n", passed, failed);
     return failed == 0 ? EXIT_SUCCESS : EXIT_FAILURE;

@@ -1,7 +1,7 @@
 /* Compares galhoveia with the second emulator over the C boundary: answers, values, and every lent byte. Two parts, so
-   that they can run side by side: `calls` has every word, refusal, panel and list, `runs` the random events, the quiet
-   stretches, and what single steps change. Prints its progress and, as its last line, how many comparisons passed and
-   failed. */
+   that they can run side by side: `calls` has every word, refusal, panel, list and listing, `runs` the random events,
+   the quiet stretches, and what single steps change. Prints its progress and, as its last line, how many comparisons
+   passed and failed. */
 #include "compare.h"
 #include "support.h"
 
@@ -18,7 +18,8 @@ static const struct {
 } can_answer[CALLS] = {
     {STEP, {0, 1, 2, 3, 4, 5, 6, -1}}, {RUN, {0, 1, 2, 3, 4, 5, 6, -1}}, {LIST, {0, 1, 7, 8, -1}},
     {LEVEL, {0, 2, 3, 9, 10, 11, -1}}, {FRESH, {0, 2, 4, 12, -1}},       {PICTURE, {0, 2, 3, 4, 7, 10, 11, -1}},
-    {BOOK_READ, {0, 10, 11, -1}},      {BOOK_WRITE, {0, 7, 10, 11, -1}},
+    {BOOK_READ, {0, 10, 11, -1}},      {BOOK_WRITE, {0, 7, 10, 11, -1}},     {LISTING_WRITE, {0, 1, 7, -1}},
+    {LISTING_READ, {0, 7, 26, -1}},
 };
 
 /* Every refusal in every call that can answer it, and no other. */
@@ -28,7 +29,7 @@ static void check_reached(void)
     for (int at = 0; at < CALLS; at++) {
         enum call call = can_answer[at].call;
 
-        printf("  %-10s", call_name[call]);
+        printf("  %-13s", call_name[call]);
         for (int number = 0, next = 0; number < REFUSALS; number++) {
             bool can = can_answer[at].numbers[next] == number;
 
@@ -44,7 +45,7 @@ static void check_reached(void)
 
 static void usage(void)
 {
-    fprintf(stderr, "usage: compare calls --trials FILE [--machines N] [--cell-stride N] [--seed N]\n"
+    fprintf(stderr, "usage: compare calls --trials FILE [--machines N] [--cell-stride N] [--text-stride N] [--seed N]\n"
                     "       compare runs --book FILE [--events N] [--cell-stride N] [--seed N]\n");
     exit(2);
 }
@@ -69,7 +70,7 @@ static double seconds_since(const struct timespec *start)
 
 int main(int argc, char **argv)
 {
-    struct plan plan = {20000000, 8, 1, NULL, NULL};
+    struct plan plan = {20000000, 8, 1, 1, NULL, NULL};
     uint64_t seed = 6754;
     struct timespec start;
     bool calls = argc > 1 && strcmp(argv[1], "calls") == 0, runs = argc > 1 && strcmp(argv[1], "runs") == 0;
@@ -85,6 +86,8 @@ int main(int argc, char **argv)
             plan.machines = (unsigned)number_of(argv[at + 1]);
         else if (strcmp(argv[at], "--cell-stride") == 0)
             plan.cell_stride = (unsigned)number_of(argv[at + 1]);
+        else if (calls && strcmp(argv[at], "--text-stride") == 0)
+            plan.text_stride = (unsigned)number_of(argv[at + 1]);
         else if (calls && strcmp(argv[at], "--trials") == 0)
             plan.trials = argv[at + 1];
         else if (strcmp(argv[at], "--seed") == 0)
@@ -104,6 +107,8 @@ int main(int argc, char **argv)
         compare_panel();
         progress("  (calls: %.1f s)", seconds_since(&start));
         compare_lists(&plan);
+        progress("  (calls: %.1f s)", seconds_since(&start));
+        compare_listings(&plan);
         check_reached();
     } else {
         compare_runs(&plan);

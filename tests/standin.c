@@ -55,3 +55,14 @@ uint32_t galhoveia_book_write(const uint8_t *program, size_t program_len, const 
 {
     return second_book_write(program, program_len, wiring, wiring_len, level, level_len, book, room, count, value);
 }
+
+uint32_t galhoveia_listing_write(const uint8_t *program, size_t program_len, uint8_t *text, size_t room,
+                                 uint64_t *count, uint64_t *value)
+{
+    return second_listing_write(program, program_len, text, room, count, value);
+}
+
+uint32_t galhoveia_listing_read(const uint8_t *text, size_t text_len, uint8_t *program, size_t room, uint64_t *value)
+{
+    return second_listing_read(text, text_len, program, room, value);
+}

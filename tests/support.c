@@ -65,7 +65,8 @@ static bool is_whole_before(enum side side, enum slot slot, size_t length)
 
 /* ---- Pairs ---- */
 
-const char *const call_name[CALLS] = {"step", "run", "list", "level", "fresh", "picture", "book_read", "book_write"};
+const char *const call_name[CALLS] = {"step",    "run",       "list",       "level",         "fresh",
+                                      "picture", "book_read", "book_write", "listing_write", "listing_read"};
 unsigned long reached[CALLS][REFUSALS];
 struct after after;
 
@@ -315,6 +316,45 @@ uint32_t pair_book_write(struct lent program, struct lent wiring, struct lent le
     compare_area(BOOK_WRITE, "wiring", SLOT_BODY, wiring, false);
     compare_area(BOOK_WRITE, "level", SLOT_OTHER_BODY, level, false);
     compare_area(BOOK_WRITE, "book", SLOT_OUTPUT, output, may_write(BOOK_WRITE, answer));
+    after.output = held[GALHOVEIA][SLOT_OUTPUT];
+    return answer;
+}
+
+uint32_t pair_listing_write(struct lent program, struct lent output)
+{
+    struct outcome outcome[SIDES] = {{0, untouched}, {0, untouched}};
+    uint32_t answer;
+
+    give(SLOT_PROGRAM, program);
+    give(SLOT_OUTPUT, output);
+    outcome[GALHOVEIA].answer =
+        galhoveia_listing_write(held[GALHOVEIA][SLOT_PROGRAM], program.length, held[GALHOVEIA][SLOT_OUTPUT],
+                                output.length, &outcome[GALHOVEIA].out.count, &outcome[GALHOVEIA].out.value);
+    outcome[SECOND].answer =
+        second_listing_write(held[SECOND][SLOT_PROGRAM], program.length, held[SECOND][SLOT_OUTPUT], output.length,
+                             &outcome[SECOND].out.count, &outcome[SECOND].out.value);
+    answer = conclude(LISTING_WRITE, outcome);
+    compare_area(LISTING_WRITE, "program", SLOT_PROGRAM, program, false);
+    compare_area(LISTING_WRITE, "text", SLOT_OUTPUT, output, may_write(LISTING_WRITE, answer));
+    after.output = held[GALHOVEIA][SLOT_OUTPUT];
+    return answer;
+}
+
+uint32_t pair_listing_read(struct lent text, struct lent output)
+{
+    struct outcome outcome[SIDES] = {{0, untouched}, {0, untouched}};
+    uint32_t answer;
+
+    give(SLOT_BODY, text);
+    give(SLOT_OUTPUT, output);
+    outcome[GALHOVEIA].answer =
+        galhoveia_listing_read(held[GALHOVEIA][SLOT_BODY], text.length, held[GALHOVEIA][SLOT_OUTPUT], output.length,
+                               &outcome[GALHOVEIA].out.value);
+    outcome[SECOND].answer = second_listing_read(held[SECOND][SLOT_BODY], text.length, held[SECOND][SLOT_OUTPUT],
+                                                 output.length, &outcome[SECOND].out.value);
+    answer = conclude(LISTING_READ, outcome);
+    compare_area(LISTING_READ, "text", SLOT_BODY, text, false);
+    compare_area(LISTING_READ, "program", SLOT_OUTPUT, output, may_write(LISTING_READ, answer));
     after.output = held[GALHOVEIA][SLOT_OUTPUT];
     return answer;
 }

@@ -8,6 +8,7 @@
 #include <stdint.h>
 
 enum { PROGRAM_BYTES = 8192, MEMORY_BYTES = 1024, RECORD_BYTES = 45, WORDS = 4096, NO_STOP = 4096 };
+enum { LINE_BYTES_MOST = 21, LISTING_BYTES_MOST = WORDS * LINE_BYTES_MOST };
 
 /* Where each field of the record begins (01, What is lent; 02, P1 and P2); channel 2 stands behind channel 1. */
 enum {
@@ -93,8 +94,8 @@ struct lent {
 
 #define LENT(area) ((struct lent){(area), sizeof(area)})
 
-enum call { STEP, RUN, LIST, LEVEL, FRESH, PICTURE, BOOK_READ, BOOK_WRITE, CALLS };
-enum { REFUSALS = 14 };
+enum call { STEP, RUN, LIST, LEVEL, FRESH, PICTURE, BOOK_READ, BOOK_WRITE, LISTING_WRITE, LISTING_READ, CALLS };
+enum { REFUSALS = 27 };
 
 extern const char *const call_name[CALLS];
 extern unsigned long reached[CALLS][REFUSALS];
@@ -121,6 +122,8 @@ uint32_t pair_fresh(struct lent memory, struct lent record, uint32_t options);
 uint32_t pair_picture(struct lent memory, struct lent record, struct lent body, struct lent output);
 uint32_t pair_book_read(struct lent book);
 uint32_t pair_book_write(struct lent program, struct lent wiring, struct lent level, struct lent output);
+uint32_t pair_listing_write(struct lent program, struct lent output);
+uint32_t pair_listing_read(struct lent text, struct lent output);
 
 /* Holds an answer and its value to what the documents say. */
 void expect(const char *what, uint32_t answer, uint32_t number, uint64_t value);
