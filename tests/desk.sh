@@ -122,12 +122,12 @@ ends 0 demo "$examples"
 quiet
 says out 'level -1  (digits 0,1; ground code 2)'
 says out 'level 6  (digits 1,0; ground code 2)'
-says out '$027  3C20  STA $020'
+says out '027 3C20 STA 020'
 says out "stopped at the script's end"
 says out 'heard no stroke'
 says out 'heard 2 strokes: down'
 says out 'heard 1 stroke: up'
-says out '  event 23057: $020 0 -> 1  by  $027  3C20  STA $020'
+says out '  event 23057: $020 0 -> 1  by  027 3C20 STA 020'
 says out 'cell $021 (low digit of the level): 3 changes; of 4 instructions that can change it 2 did, and these never:'
 ends 2 demo nowhere
 says err 'cannot read nowhere/dispatcher.script'
@@ -338,15 +338,15 @@ ends 2 picture nowhere.book end.state
 echo "desk: writers"
 ends 0 writers "$book" 020
 says out 'cell $020: 4 instructions can change it'
-says out '$04A  3C0F  STA $00F'
+says out '04A 3C0F STA 00F'
 quiet
 ends 0 writers "$book" --level
 says out 'cell $020 (high digit of the level): 4'
 says out 'cell $021 (low digit of the level): 4'
-says out '$016  7921  LDI $021, 2'
+says out '016 7921 LDI 021 2'
 ends 0 writers --level "$book"
 ends 0 writers "$book" '$304'
-says out 'STA $304'
+says out 'STA 304'
 ends 0 writers stop.book 36D
 says out 'cell $36D: 0 instructions can change it'
 ends 0 writers stop.book 20
@@ -362,8 +362,8 @@ printf ' ORG $010\n ADIM $20,0\n ADIM $20,1\n STA $0F\n STA $0A0\n ANDIM $20,15\
 ends 0 book make twelve.book twelve.asm small.wiring small.level
 ends 0 writers twelve.book 020
 says out 'cell $020: 2 instructions'
-says out '  $011  48A0  ADIM $020, 1'
-says out '  $012  3C0F  STA $00F'
+says out '  011 48A0 ADIM 020 1'
+says out '  012 3C0F STA 00F'
 
 echo "desk: watched cells"
 # Which instructions moved the level: neither STA $00F did, since the pointer stands at the display.
@@ -372,17 +372,17 @@ cat >wanted <<'END'
 PC $011, AC 8, CY 1, asleep in HALT
 sound channel 1: output 1, count 12; channel 2: output 0, count 0
 changes, with events counted from 0:
-  event 25: $021 0 -> 2  by  $016  7921  LDI $021, 2
-  event 573: $021 2 -> 1  by  $02B  3C21  STA $021
-  event 23057: $020 0 -> 1  by  $027  3C20  STA $020
-  event 23077: $021 1 -> 0  by  $02B  3C21  STA $021
+  event 25: $021 0 -> 2  by  016 7921 LDI 021 2
+  event 573: $021 2 -> 1  by  02B 3C21 STA 021
+  event 23057: $020 0 -> 1  by  027 3C20 STA 020
+  event 23077: $021 1 -> 0  by  02B 3C21 STA 021
 cell $020 (high digit of the level): 1 change; of 4 instructions that can change it 1 did, and these never:
-  $015  7820  LDI $020, 0
-  $04A  3C0F  STA $00F  ; wherever the pointer $012, $011, $010 stands
-  $04D  3C0F  STA $00F  ; wherever the pointer $012, $011, $010 stands
+  015 7820 LDI 020 0
+  04A 3C0F STA 00F  ; wherever the pointer $012, $011, $010 stands
+  04D 3C0F STA 00F  ; wherever the pointer $012, $011, $010 stands
 cell $021 (low digit of the level): 3 changes; of 4 instructions that can change it 2 did, and these never:
-  $04A  3C0F  STA $00F  ; wherever the pointer $012, $011, $010 stands
-  $04D  3C0F  STA $00F  ; wherever the pointer $012, $011, $010 stands
+  04A 3C0F STA 00F  ; wherever the pointer $012, $011, $010 stands
+  04D 3C0F STA 00F  ; wherever the pointer $012, $011, $010 stands
 END
 ends 0 run "$book" "$script" --watch-level
 same out wanted
@@ -400,13 +400,13 @@ same out wanted
 ends 0 run "$book" "$script" --save watched.state --show --digits 2
 cp out plain.out
 ends 0 run "$book" "$script" --save watched.state --force --show --digits 2 --watch '$304' --watch-level
-says out '  event 768: $304 0 -> 1  by  $044  3F04  STA $304'
+says out '  event 768: $304 0 -> 1  by  044 3F04 STA 304'
 says out 'cell $304: 2 changes; of 3 instructions that can change it 1 did, and these never:'
-grep -v -e '^changes, ' -e '^  event ' -e '^cell \$' -e '^  \$' out >rest.out
+grep -v -e '^changes, ' -e '^  event ' -e '^cell \$' -e '^  [0-9A-F]\{3\} [0-9A-F]\{4\} ' out >rest.out
 same rest.out plain.out
 same watched.state end.state
 ends 0 run "$book" "$script" --watch 300
-says out '  by  $04A  3C0F  STA $00F  ; wherever the pointer $012, $011, $010 stands'
+says out '  by  04A 3C0F STA 00F  ; wherever the pointer $012, $011, $010 stands'
 ends 0 run "$book" "$script" --watch 0x16F
 says out 'cell $16F: 0 changes; of 2 instructions that can change it 0 did, and these never:'
 ends 0 run "$book" "$script" --watch 021 --stop 010
@@ -423,7 +423,7 @@ says out 'cell $36D: 0 changes; of 0 instructions that can change it 0 did'
 ends 1 run stop.book nine.script --watch 20
 says err 'refused by 6, value 2'
 says out '2 of 9 events done; stopped before a word that is no instruction'
-says out '  event 0: $020 0 -> 9  by  $000  7CA0  LDI $020, 9'
+says out '  event 0: $020 0 -> 9  by  000 7CA0 LDI 020 9'
 says out 'cell $020: 1 change; of 1 instruction that can change it 1 did'
 # What is refused is not run.
 : >nothing
@@ -444,7 +444,7 @@ proved=$desk
 desk=$forgetful
 ends 3 run "$book" "$script" --watch-level
 says out '29608 of 29608 events done'
-says out '  event 25: $021 0 -> 2  by  $016  7921  LDI $021, 2'
+says out '  event 25: $021 0 -> 2  by  016 7921 LDI 021 2'
 says err 'desk: FAULT: event 25 changed cell $021 at $016, which its list of writers does not have'
 says err 'report it'
 ends 3 demo "$examples"
@@ -772,8 +772,8 @@ cat >wanted <<'END'
 PC $007, AC 15, CY 0, running
 sound channel 1: output 0, count 0; channel 2: output 0, count 0
 changes, with events counted from 0:
-  event 4: $020 0 -> 3  by  $004  3C20  STA $020
-  event 6: $021 0 -> 15  by  $006  3C21  STA $021
+  event 4: $020 0 -> 3  by  004 3C20 STA 020
+  event 6: $021 0 -> 15  by  006 3C21 STA 021
 cell $020 (high digit of the level): 1 change; of 1 instruction that can change it 1 did
 cell $021 (low digit of the level): 1 change; of 1 instruction that can change it 1 did
 END
@@ -881,14 +881,41 @@ ends 2 book check nowhere.book
 ends 2 book check folder
 
 echo "desk: the assembler"
-# Each of these lines is refused, with its number.
-for bad in 'FOO $1' 'LDI $020' 'LDI $080, 1' 'LDI $020, 16' 'STA $400' 'JMP $1000' 'BNZ $800' 'DAA $80' 'RTNW 16, 0' \
-    'RTNW 0' 'NOP 5' 'LDA nowhere' 'ORG $1000' 'DW $10000' 'x EQU y' 'a: a: NOP' 'LDI EQU 5' 'STA $020 $021' \
-    'JMP 5 -' '5' 'LDA $' 'STA 0 - 1'; do
+# Each of these lines is refused, with its number and the words behind the bar.
+while IFS='|' read -r bad words; do
     printf 'NOP\n%s\n' "$bad" >bad.asm
     ends 2 book make never.book bad.asm small.wiring small.level
-    says err 'bad.asm:2: '
-done
+    says err "bad.asm:2: $words"
+done <<'END'
+FOO $1|unknown mnemonic: FOO
+DATA|unknown mnemonic: DATA
+LDI $020|a comma and a second operand are due here:
+LDI $080, 1|the cell is 0 to $7F here, not 128
+LDI $020, 16|the number is 0 to $F here, not 16
+STA $400|the cell is 0 to $3FF here, not 1024
+JMP $1000|the target is 0 to $FFF here, not 4096
+BNZ $1000|the target is 0 to $FFF here, not 4096
+BNZ $800|the target $800 lies in the other half of the program
+CALL $FFF|the target $FFF lies in the other half of the program
+DAA $80|the cell is 0 to $7F here, not 128
+RTNW 16, 0|the high number is 0 to $F here, not 16
+RTNW 0, 16|the number is 0 to $F here, not 16
+RTNW 0|a comma and a second operand are due here:
+NOP 5|not understood: 5
+STA|a number up to $FFFF or a name is due here:
+LDA nowhere|unknown name: nowhere
+ORG $1000|program addresses are 0 to $FFF
+DW $10000|a number up to $FFFF or a name is due here: $10000
+x EQU y|unknown name: y
+a: a: NOP|unknown mnemonic: a
+LDI EQU 5|a mnemonic cannot be a name: LDI
+sta: NOP|a mnemonic cannot be a name: sta
+STA $020 $021|not understood: $021
+JMP 5 -|a number up to $FFFF or a name is due here:
+5|not understood: 5
+LDA $|a number up to $FFFF or a name is due here: $
+STA 0 - 1|the cell is 0 to $3FF here, not -1
+END
 printf 'ORG 5\nNOP\nORG 5\nNOP\n' >bad.asm
 ends 2 book make never.book bad.asm small.wiring small.level
 says err 'bad.asm:4: there is a word at $005 already'
