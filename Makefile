@@ -152,6 +152,9 @@ build/native/forgetful: $(patsubst %.c,build/native/objects/%.o,$(DESK) tests/fo
 build/native/deaf: $(patsubst %.c,build/native/objects/%.o,$(DESK) tests/deaf.c tests/standin.c $(SECOND))
 	$(CC) -Wl,--wrap=galhoveia_step -o $@ $^
 
+build/native/torn: $(patsubst %.c,build/native/objects/%.o,$(DESK) tests/torn.c tests/standin.c $(SECOND))
+	$(CC) -Wl,--wrap=galhoveia_listing_write -o $@ $^
+
 build/sanitized/desk: $(DESK:%.c=build/sanitized/objects/%.o) $(SANITIZED_LIB)
 	$(CC) $(SANITIZE) -o $@ $^
 
@@ -164,7 +167,7 @@ build/sanitized/text: $(patsubst %.c,build/sanitized/objects/%.o,$(TEXT) second/
 # ---- Tests ----
 
 # Desks with a fault in them, which they must find.
-FAULTY_DESKS = build/native/forgetful build/native/deaf
+FAULTY_DESKS = build/native/forgetful build/native/deaf build/native/torn
 
 test: build/plain/header build/plain/header-cpp build/plain/desk build/plain/compare build/plain/text \
     build/native/trials $(FAULTY_DESKS)
