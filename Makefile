@@ -51,7 +51,7 @@ CRATES = crates.txt $(wildcard crates/*/src/*.rt)
 SECOND = second/second.c second/search.c second/instruction.c second/listing.c
 DESK = $(wildcard desk/*.c)
 COMPARE = $(wildcard tests/compare*.c) tests/support.c tests/counting.c tests/machines.c tests/forms.c
-TEXT = tests/text.c desk/assembler.c desk/files.c desk/listing.c desk/refusal.c desk/texts.c
+TEXT = tests/text.c desk/assembler.c desk/files.c desk/listing.c desk/mnemonics.c desk/refusal.c desk/texts.c
 BENCH = $(wildcard bench/*.c) desk/files.c desk/refusal.c desk/texts.c
 TRIALS = tests/trials.c tests/counting.c tests/machines.c tests/forms.c
 HEADERS = $(wildcard bench/*.h desk/*.h tests/*.h second/*.h)
@@ -140,6 +140,9 @@ build/plain/header: build/plain/objects/tests/header.o $(LIB)
 build/plain/header-cpp: build/plain/objects/tests/header-cpp.o $(LIB)
 	$(LINK)
 
+build/plain/text: $(patsubst %.c,build/plain/objects/%.o,$(TEXT) second/instruction.c) $(LIB)
+	$(LINK)
+
 build/native/trials: $(patsubst %.c,build/native/objects/%.o,$(TRIALS) $(SECOND))
 	$(CC) -o $@ $^
 
@@ -149,8 +152,8 @@ build/native/forgetful: $(patsubst %.c,build/native/objects/%.o,$(DESK) tests/fo
 build/native/deaf: $(patsubst %.c,build/native/objects/%.o,$(DESK) tests/deaf.c tests/standin.c $(SECOND))
 	$(CC) -Wl,--wrap=galhoveia_step -o $@ $^
 
-build/native/text: $(patsubst %.c,build/native/objects/%.o,$(TEXT) second/instruction.c)
-	$(CC) -o $@ $^
+build/native/torn: $(patsubst %.c,build/native/objects/%.o,$(DESK) tests/torn.c tests/standin.c $(SECOND))
+	$(CC) -Wl,--wrap=galhoveia_listing_write -o $@ $^
 
 build/sanitized/desk: $(DESK:%.c=build/sanitized/objects/%.o) $(SANITIZED_LIB)
 	$(CC) $(SANITIZE) -o $@ $^
@@ -158,18 +161,18 @@ build/sanitized/desk: $(DESK:%.c=build/sanitized/objects/%.o) $(SANITIZED_LIB)
 build/sanitized/compare: $(patsubst %.c,build/sanitized/objects/%.o,$(COMPARE) $(SECOND)) $(SANITIZED_LIB)
 	$(CC) $(SANITIZE) -o $@ $^
 
-build/sanitized/text: $(patsubst %.c,build/sanitized/objects/%.o,$(TEXT) second/instruction.c)
+build/sanitized/text: $(patsubst %.c,build/sanitized/objects/%.o,$(TEXT) second/instruction.c) $(SANITIZED_LIB)
 	$(CC) $(SANITIZE) -o $@ $^
 
 # ---- Tests ----
 
 # Desks with a fault in them, which they must find.
-FAULTY_DESKS = build/native/forgetful build/native/deaf
+FAULTY_DESKS = build/native/forgetful build/native/deaf build/native/torn
 
-test: build/plain/header build/plain/header-cpp build/plain/desk build/plain/compare build/native/text \
+test: build/plain/header build/plain/header-cpp build/plain/desk build/plain/compare build/plain/text \
     build/native/trials $(FAULTY_DESKS)
 	@tests/all.sh tests/newcomer.sh "tests/header.sh $(CC) $(CXX)" build/plain/header build/plain/header-cpp \
-	    build/native/text "tests/desk.sh build/plain/desk $(FAULTY_DESKS)" "build/native/trials build/trials" \
+	    build/plain/text "tests/desk.sh build/plain/desk $(FAULTY_DESKS)" "build/native/trials build/trials" \
 	    "tests/beside.sh 'build/plain/compare calls --trials build/trials' 'build/plain/compare runs --book $(BOOK) --events $(EVENTS)'"
 
 # A finding ends with 99, which no command of the desk does. Leaks are not looked for: every command would take seconds

@@ -1,5 +1,5 @@
 /* A small assembler: a program in text to its 8,192 bytes, in two passes over the lines. */
-#include "listing.h"
+#include "mnemonics.h"
 #include "texts.h"
 
 #include "galhoveia.h"
@@ -20,7 +20,7 @@ const char program_help[] =
     "forms with a number, DAA and DAS reach $000-$07F. Branches and CALL reach their own half of the program. A value\n"
     "is a number (18, $12, 0x12) or a name, with + and - between several. Words that no line fills are NOP.\n";
 
-enum { NAMES_MOST = 4096, NAME_ROOM = 32, PAGE = 0x800 };
+enum { NAMES_MOST = 4096, NAME_ROOM = 32, INSTRUCTION_ROOM = 40 };
 
 struct name {
     char text[NAME_ROOM];
@@ -29,6 +29,7 @@ struct name {
 
 struct assembler {
     const char *path;
+    const struct mnemonics *known;
     unsigned long line;
     bool last_pass;
     long address;
@@ -85,7 +86,7 @@ static void define(struct assembler *as, const char *text, size_t length, long v
         bad_line(as, "this name is given twice", text, length);
     if (length >= NAME_ROOM || as->name_count == NAMES_MOST)
         bad_line(as, "this name is too long, or there are too many", text, length);
-    if (form_named(text, length) != NULL)
+    if (form_named(as->known, text, length) != NULL)
         bad_line(as, "a mnemonic cannot be a name", text, length);
     memcpy(as->names[as->name_count].text, text, length);
     as->names[as->name_count++].value = value;
@@ -140,39 +141,49 @@ static unsigned in_range(const struct assembler *as, long value, long most, cons
     return (unsigned)value;
 }
 
-static unsigned second_operand(const struct assembler *as, const char **at)
+/* An operand of one digit is a number; of the others, one whose largest is a memory address is a cell, and the rest are
+   program addresses, whose bits above that largest are those of the instruction's own address. */
+static unsigned operand_at(const struct assembler *as, const struct form *form, int place, const char **at)
 {
-    *at = blanks(*at);
-    if (**at != ',')
-        bad_line(as, "a comma and a second operand are due here", *at, strcspn(*at, ";\r\n"));
-    (*at)++;
-    return in_range(as, value_at(as, at, false), 15, "the number");
+    const struct operand *operand = &form->operand[place];
+    long value;
+
+    if (place > 0) {
+        *at = blanks(*at);
+        if (**at != ',')
+            bad_line(as, "a comma and a second operand are due here", *at, strcspn(*at, ";\r\n"));
+        (*at)++;
+    }
+    value = value_at(as, at, false);
+    if (operand->digits == 1)
+        return in_range(as, value, operand->most, place == 0 ? "the high number" : "the number");
+    if (operand->most < GALHOVEIA_MEMORY_BYTES)
+        return in_range(as, value, operand->most, "the cell");
+    in_range(as, value, GALHOVEIA_WORDS - 1, "the target");
+    if (as->last_pass && ((unsigned)(value ^ as->address) & ~operand->most) != 0)
+        fail("%s:%lu: the target $%03lX lies in the other half of the program", as->path, as->line,
+             (unsigned long)value);
+    return (unsigned)value & operand->most;
 }
 
-static unsigned operand_bits(const struct assembler *as, const struct form *form, const char **at)
+/* The word whose line in a listing has the instruction, the operands behind its mnemonic read. In the first pass, where
+   a label may be unknown yet, it is 0. */
+static unsigned instruction_at(const struct assembler *as, const struct form *form, const char **at)
 {
-    long first;
+    char text[INSTRUCTION_ROOM];
+    int length = snprintf(text, sizeof text, "%s", form->name);
+    uint16_t word = 0;
 
-    if (form->operands == TAKES_NONE)
-        return 0;
-    first = value_at(as, at, false);
-    switch (form->operands) {
-    case TAKES_CELL:
-        return in_range(as, first, 0x3FF, "the cell");
-    case TAKES_CELL_NUMBER:
-        return in_range(as, first, 0x7F, "the cell") | second_operand(as, at) << 7;
-    case TAKES_NEAR_CELL:
-        return in_range(as, first, 0x7F, "the cell");
-    case TAKES_TARGET:
-        if (as->last_pass && (in_range(as, first, GALHOVEIA_WORDS - 1, "the target") & PAGE) != (as->address & PAGE))
-            fail("%s:%lu: the target $%03lX lies in the other half of the program", as->path, as->line,
-                 (unsigned long)first);
-        return (unsigned)first & (PAGE - 1);
-    case TAKES_FAR_TARGET:
-        return in_range(as, first, GALHOVEIA_WORDS - 1, "the target");
-    default:
-        return in_range(as, first, 15, "the high number") << 4 | second_operand(as, at);
+    for (int place = 0; place < form->count; place++) {
+        unsigned number = operand_at(as, form, place, at);
+
+        if (as->last_pass)
+            length += snprintf(text + length, sizeof text - (size_t)length, " %0*X", form->operand[place].digits,
+                               number);
     }
+    if (as->last_pass && !word_of(as->known, text, &word))
+        bad_listing("an instruction has no line");
+    return word;
 }
 
 static void put(struct assembler *as, unsigned word)
@@ -222,9 +233,9 @@ static void read_line(struct assembler *as, const char *at)
         } else if (is_keyword(at, length, "DW")) {
             at += length;
             put(as, in_range(as, value_at(as, &at, false), 0xFFFF, "the word"));
-        } else if ((form = form_named(at, length)) != NULL) {
+        } else if ((form = form_named(as->known, at, length)) != NULL) {
             at += length;
-            put(as, form->word | operand_bits(as, form, &at));
+            put(as, instruction_at(as, form, &at));
         } else {
             bad_line(as, "unknown mnemonic", at, length);
         }
@@ -236,8 +247,12 @@ static void read_line(struct assembler *as, const char *at)
 
 struct bytes program_from_text(const char *path, const char *text)
 {
-    struct assembler as = {path, 0, false, 0, take_memory(NAMES_MOST, sizeof *as.names), 0,
-                           take_memory(GALHOVEIA_PROGRAM_BYTES, 1), take_memory(GALHOVEIA_WORDS, sizeof *as.filled)};
+    struct mnemonics *known = learn_mnemonics();
+    struct assembler as = {.path = path,
+                           .known = known,
+                           .names = take_memory(NAMES_MOST, sizeof *as.names),
+                           .program = take_memory(GALHOVEIA_PROGRAM_BYTES, 1),
+                           .filled = take_memory(GALHOVEIA_WORDS, sizeof *as.filled)};
 
     memset(as.program, 0xFF, GALHOVEIA_PROGRAM_BYTES);
     for (int pass = 0; pass < 2; pass++) {
@@ -255,5 +270,6 @@ struct bytes program_from_text(const char *path, const char *text)
     }
     free(as.names);
     free(as.filled);
+    free(known);
     return (struct bytes){as.program, GALHOVEIA_PROGRAM_BYTES};
 }

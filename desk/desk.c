@@ -1,5 +1,6 @@
 /* The desk command: panel books, machine states and scripts as files, worked on by the library of galhoveia.h. */
 #include "drawing.h"
+#include "explain.h"
 #include "run.h"
 #include "texts.h"
 #include "watch.h"
@@ -310,6 +311,59 @@ static enum status work_writers(const struct command *command, int count, char *
     return done ? DONE : REFUSED;
 }
 
+static enum status work_listing(const struct command *command, int count, char **words)
+{
+    const char *path[1], *out = NULL;
+    bool force = false;
+    const struct option known[] = {{"--out", &out, NULL}, {"--force", NULL, &force}, {NULL, NULL, NULL}};
+    uint8_t text[GALHOVEIA_LISTING_BYTES_MOST];
+    struct book book;
+    size_t length;
+
+    take_words(command, count, words, known, path, 1);
+    if (force && out == NULL)
+        wrong_use(command, "--force is for the file of", "--out");
+    if (out != NULL)
+        may_write(out, force);
+    if (!read_book(path[0], &book))
+        return REFUSED;
+    length = write_listing(book.program.at, text);
+    free(book.file.at);
+    if (out == NULL) {
+        fwrite(text, 1, length, stdout);
+        return DONE;
+    }
+    write_file(out, text, length, force);
+    printf("%s: the listing of %s, %d lines\n", out, path[0], GALHOVEIA_WORDS);
+    return DONE;
+}
+
+static enum status work_program(const struct command *command, int count, char **words)
+{
+    const char *others[2];
+    bool force = false;
+    const struct option known[] = {{"--force", NULL, &force}, {NULL, NULL, NULL}};
+    uint8_t program[GALHOVEIA_PROGRAM_BYTES];
+    struct bytes text;
+    uint64_t value = 0;
+    uint32_t refusal;
+
+    take_words(command, count, words, known, others, 2);
+    may_write(others[1], force);
+    text = read_file(others[0], FILE_MOST);
+    refusal = galhoveia_listing_read(text.at, text.length, program, sizeof program, &value);
+    if (refusal != GALHOVEIA_DONE)
+        say_refusal(others[0], refusal, value);
+    if (refusal == GALHOVEIA_LISTING)
+        explain_listing(text, value);
+    free(text.at);
+    if (refusal != GALHOVEIA_DONE)
+        return REFUSED;
+    write_file(others[1], program, sizeof program, force);
+    printf("%s: a program of %d bytes\n", others[1], GALHOVEIA_PROGRAM_BYTES);
+    return DONE;
+}
+
 static enum status work_book_check(const struct command *command, int count, char **words)
 {
     const char *path[1];
@@ -463,6 +517,7 @@ static enum status work_demo(const struct command *command, int count, char **wo
 /* ---- Help ---- */
 
 static const char *const run_texts[] = {script_help, NULL};
+static const char *const listing_texts[] = {listing_help, NULL};
 static const char *const make_texts[] = {program_help, wiring_help, level_help, NULL};
 
 #define STATE_HELP "A state file is the memory (1,024 bytes), then the record (45 bytes).\n"
@@ -492,7 +547,14 @@ static const struct command commands[] = {
      "seven-segment digits, each wired in the order a to g. --columns N puts N elements in a row (16 if not given).\n"
      "--raw writes one byte, 0 or 1, for each element instead.\n", NULL, work_picture},
     {"writers", "writers BOOK CELL | writers BOOK --level", "lists every instruction that can change a cell",
-     "CELL is in hex: a data, display or scan cell. --level asks for both digits of the level.\n", NULL, work_writers},
+     "CELL is in hex: a data, display or scan cell. --level asks for both digits of the level.\n"
+     "Each instruction is shown by its line in the program's listing (desk listing).\n", NULL, work_writers},
+    {"listing", "listing BOOK [--out FILE [--force]]", "writes a book's program as text",
+     "The listing goes to standard output, or into FILE. desk program reads it back.\n", listing_texts, work_listing},
+    {"program", "program LISTING OUT [--force]", "reads a program back from its listing",
+     "OUT gets the 8,192 bytes of a book's program body; desk book make takes them where OUT's name ends in .bin. Only\n"
+     "what desk listing can have written is taken; of any other text the first bad line is told.\n", listing_texts,
+     work_program},
     {"book check", "book check BOOK", "judges a book and tells what is in it", NULL, NULL, work_book_check},
     {"book make", "book make BOOK PROGRAM WIRING LEVEL [--force]", "makes a book of its three bodies",
      "Each body is a text as below, or, where the file's name ends in .bin, the body's bytes.\n", make_texts,
@@ -509,7 +571,7 @@ static void print_overview(FILE *to)
     fprintf(to, "\ndesk COMMAND --help tells more of one. No file is written over unless --force is given.\n"
                 "Exit status: 0 done; 1 refused by the library, which is said with its number and value; 2 wrong use,\n"
                 "or a file that cannot be read, is in the way, or is not what it should be; 3 a fault of the library,\n"
-                "which a watched run, a run that is heard, and the demo look for.\n");
+                "which a watched run, a run that is heard, the demo and whatever takes a listing's lines look for.\n");
 }
 
 static void print_help(const struct command *command)

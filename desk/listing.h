@@ -1,40 +1,38 @@
-/* Instruction words as text, both ways: the mnemonics of document 003, section 17, with an address and its bank as one
-   number. */
+/* A program's listing, as the library writes it: the only place from which the desk has an instruction's text. */
 #ifndef DESK_LISTING_H
 #define DESK_LISTING_H
 
+#include "galhoveia.h"
+
 #include <stdbool.h>
-#include <stddef.h>
-#include <stdint.h>
 
-enum operands {
-    TAKES_CELL,        /* a cell $000-$3FF */
-    TAKES_CELL_NUMBER, /* a cell $000-$07F and a number 0-15 */
-    TAKES_NEAR_CELL,   /* a cell $000-$07F */
-    TAKES_TARGET,      /* a program address in the instruction's own half, 11 bits */
-    TAKES_FAR_TARGET,  /* any program address, 12 bits */
-    TAKES_NIBBLES,     /* two numbers 0-15 */
-    TAKES_NONE
+/* Where a line has its mnemonic. */
+enum { LINE_MNEMONIC = 9 };
+
+/* What stands behind a line's word, with a 0 at its end. */
+enum { TEXT_ROOM = GALHOVEIA_LINE_BYTES_MOST - LINE_MNEMONIC };
+
+/* Each address's line, with a 0 in place of its line feed. */
+struct lines {
+    char at[GALHOVEIA_WORDS][GALHOVEIA_LINE_BYTES_MOST];
 };
 
-struct form {
-    const char *name;
-    uint16_t word; /* with every operand 0 */
-    enum operands operands;
-};
+/* Says that the library's lines are not what they must be, and ends the command with FAULT. */
+_Noreturn void bad_listing(const char *what);
 
-enum { LISTING_ROOM = 24 };
+/* Writes the listing of a program of 8,192 bytes into room for any, and answers its length. */
+size_t write_listing(const uint8_t *program, uint8_t text[GALHOVEIA_LISTING_BYTES_MOST]);
 
-/* NULL for an unlisted word. */
-const struct form *form_of(uint16_t word);
+/* The same, line by line. */
+void list_lines(const uint8_t *program, struct lines *lines);
 
-/* NULL for an unknown mnemonic; capitals and small letters are one. */
-const struct form *form_named(const char *name, size_t length);
+/* The lines of 4,096 words from `first` on, ascending, so that sixteen such listings have every word. */
+void list_words(unsigned first, struct lines *lines);
 
-/* The instruction as the assembler reads it, or "unlisted". */
-void instruction_text(uint16_t word, char text[LISTING_ROOM]);
+/* Whether a line's word is no instruction. */
+bool is_data(const char *line);
 
-/* Whether the instruction names $00F, so that the pointer $012, $011, $010 says which cell it means. */
-bool goes_through_pointer(uint16_t word);
+/* Where a line's first operand begins; its end if it has none. */
+const char *first_operand(const char *line);
 
 #endif

@@ -2,7 +2,6 @@
 #include "panel.h"
 
 #include "drawing.h"
-#include "listing.h"
 
 #include <stdio.h>
 #include <stdlib.h>
@@ -60,6 +59,7 @@ bool read_book(const char *path, struct book *book)
     book->program = (struct bytes){book->file.at + program, (size_t)program_len};
     book->wiring = (struct bytes){book->file.at + wiring, (size_t)wiring_len};
     book->level = (struct bytes){book->file.at + level, (size_t)level_len};
+    list_lines(book->program.at, &book->lines);
     return true;
 }
 
@@ -167,12 +167,16 @@ bool ask_writers(const struct book *book, uint32_t cell, struct writers *writers
 
 void show_instruction(const struct book *book, unsigned address)
 {
-    uint16_t word = (uint16_t)two(book->program.at + 2 * address);
-    char text[LISTING_ROOM];
+    printf("%s\n", book->lines.at[address]);
+}
 
-    instruction_text(word, text);
-    printf("$%03X  %04X  %s%s\n", address, word, text,
-           goes_through_pointer(word) ? "  ; wherever the pointer $012, $011, $010 stands" : "");
+/* An instruction that changes a data, display or scan cell has that cell as its first operand, or $00F. */
+void show_writer(const struct book *book, unsigned address)
+{
+    const char *line = book->lines.at[address];
+
+    printf("%s%s\n", line,
+           strncmp(first_operand(line), "00F", 3) == 0 ? "  ; wherever the pointer $012, $011, $010 stands" : "");
 }
 
 bool show_writers(const struct book *book, uint32_t cell, const char *meaning)
@@ -185,7 +189,7 @@ bool show_writers(const struct book *book, uint32_t cell, const char *meaning)
            writers.count == 1 ? "" : "s");
     for (size_t at = 0; at < writers.count; at++) {
         printf("  ");
-        show_instruction(book, writers.address[at]);
+        show_writer(book, writers.address[at]);
     }
     return true;
 }
@@ -203,10 +207,8 @@ void show_book(const char *path, const struct book *book)
     unsigned unlisted = 0, blank = 0;
 
     for (unsigned address = 0; address < GALHOVEIA_WORDS; address++) {
-        uint16_t word = (uint16_t)two(book->program.at + 2 * address);
-
-        unlisted += form_of(word) == NULL;
-        blank += word == NOP;
+        unlisted += is_data(book->lines.at[address]);
+        blank += two(book->program.at + 2 * address) == NOP;
     }
     printf("%s is a good book of %zu bytes\n", path, book->file.length);
     printf("  program: %d words, of these %u NOP and %u that are no instruction\n", GALHOVEIA_WORDS, blank, unlisted);

@@ -3,7 +3,7 @@
 #define DESK_PANEL_H
 
 #include "files.h"
-#include "galhoveia.h"
+#include "listing.h"
 
 enum { FILE_MOST = 1 << 20, SCRIPT_FILE_MOST = 1 << 30 };
 
@@ -21,6 +21,7 @@ void write_state(const char *path, const struct state *state, bool force);
 struct book {
     struct bytes file;
     struct bytes program, wiring, level; /* within the file */
+    struct lines lines;                  /* the program's listing */
 };
 
 /* Each of these answers whether the library did it; a refusal is said. The caller frees the book's file. */
@@ -55,8 +56,10 @@ bool show_level(const struct book *book, const struct state *state, const char *
 bool show_writers(const struct book *book, uint32_t cell, const char *meaning);
 bool show_level_writers(const struct book *book);
 
-/* The rest of a line: address, word and text of the instruction there. */
+/* The rest of a line: the listing's line of an address. Of one in a list of writers it is also said whether it names
+   $00F, so that the pointer tells which cell it changes. */
 void show_instruction(const struct book *book, unsigned address);
+void show_writer(const struct book *book, unsigned address);
 
 void show_book(const char *path, const struct book *book);
 void show_registers(const struct state *state);

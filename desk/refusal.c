@@ -54,6 +54,14 @@ void say_refusal(const char *what, uint32_t number, uint64_t value)
     case GALHOVEIA_OPTIONS:
         fprintf(stderr, "options are 0 to 7");
         break;
+    case GALHOVEIA_LISTING:
+        if (value < GALHOVEIA_WORDS)
+            fprintf(stderr, "the text is no listing; the first line that is missing or not as it must be is line %llu "
+                            "of the file, counted from 1, that of address %03llX", with + 1, with);
+        else
+            fprintf(stderr, "the text is no listing; its %d lines are good, but more stands behind them",
+                    GALHOVEIA_WORDS);
+        break;
     default:
         fprintf(stderr, "a reason this command does not know");
         break;

@@ -54,7 +54,10 @@ static bool show_change(struct watched *watched, const struct book *book, uint64
 
     printf("  event %llu: $%03lX %u -> %u  by  ", (unsigned long long)place, (unsigned long)watched->cell,
            before->memory[watched->cell], now->memory[watched->cell]);
-    show_instruction(book, address);
+    if (watched->writer[address] == NO_WRITER)
+        show_instruction(book, address);
+    else
+        show_writer(book, address);
     watched->changes++;
     if (!executes(before, event))
         return say_fault("event %llu executes no instruction and changed cell $%03lX", (unsigned long long)place,
@@ -81,7 +84,7 @@ static void show_writers_seen(const struct watched *watched, const struct book *
     for (unsigned address = 0; address < GALHOVEIA_WORDS; address++)
         if (watched->writer[address] == NEVER_CHANGED) {
             printf("  ");
-            show_instruction(book, address);
+            show_writer(book, address);
         }
 }
 

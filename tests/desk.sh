@@ -1,9 +1,10 @@
 #!/bin/sh
-# Tests of the desk command: desk.sh PATH-OF-DESK PATH-OF-FORGETFUL-DESK (forgetful.c) PATH-OF-DEAF-DESK (deaf.c), from
-# the repository's folder. Works in a folder of its own.
+# Tests of the desk command: desk.sh PATH-OF-DESK PATH-OF-FORGETFUL-DESK (forgetful.c) PATH-OF-DEAF-DESK (deaf.c)
+# PATH-OF-TORN-DESK (torn.c), from the repository's folder. Works in a folder of its own.
 desk=$(realpath "$1") || exit 2
 forgetful=$(realpath "$2") || exit 2
 deaf=$(realpath "$3") || exit 2
+torn=$(realpath "$4") || exit 2
 examples=$(realpath examples) || exit 2
 inspector=$(realpath docs/INSPECTOR.md) || exit 2
 work=$(mktemp -d) || exit 2
@@ -71,7 +72,7 @@ ends 0 --help
 says out 'desk writers BOOK CELL'
 quiet
 ends 0 book --help
-for command in demo fresh run level picture writers 'book check' 'book make'; do
+for command in demo fresh run level picture writers listing program 'book check' 'book make'; do
     # shellcheck disable=SC2086
     ends 0 $command --help
     says out "usage: desk $command"
@@ -84,6 +85,11 @@ says out 'sound '
 says out '--wav FILE [--rate HZ]'
 ends 0 fresh --help
 says out 'the memory (1,024 bytes), then the record (45 bytes)'
+for command in listing program; do
+    ends 0 $command --help
+    says out '  013 3CA0 STA 0A0 '
+    says out '  029 CB80 DATA '
+done
 ends 0 book make --help
 says out 'EQU'
 says out '$300.2'
@@ -95,7 +101,7 @@ says err 'no such command: nonsense'
 ends 2 book
 ends 2 book burn
 says err 'no such command: book burn'
-for command in fresh run level picture writers 'book check' 'book make'; do
+for command in fresh run level picture writers listing program 'book check' 'book make'; do
     # shellcheck disable=SC2086
     ends 2 $command
     says err "usage: desk $command"
@@ -122,12 +128,12 @@ ends 0 demo "$examples"
 quiet
 says out 'level -1  (digits 0,1; ground code 2)'
 says out 'level 6  (digits 1,0; ground code 2)'
-says out '$027  3C20  STA $020'
+says out '027 3C20 STA 020'
 says out "stopped at the script's end"
 says out 'heard no stroke'
 says out 'heard 2 strokes: down'
 says out 'heard 1 stroke: up'
-says out '  event 23057: $020 0 -> 1  by  $027  3C20  STA $020'
+says out '  event 23057: $020 0 -> 1  by  027 3C20 STA 020'
 says out 'cell $021 (low digit of the level): 3 changes; of 4 instructions that can change it 2 did, and these never:'
 ends 2 demo nowhere
 says err 'cannot read nowhere/dispatcher.script'
@@ -338,15 +344,15 @@ ends 2 picture nowhere.book end.state
 echo "desk: writers"
 ends 0 writers "$book" 020
 says out 'cell $020: 4 instructions can change it'
-says out '$04A  3C0F  STA $00F'
+says out '04A 3C0F STA 00F'
 quiet
 ends 0 writers "$book" --level
 says out 'cell $020 (high digit of the level): 4'
 says out 'cell $021 (low digit of the level): 4'
-says out '$016  7921  LDI $021, 2'
+says out '016 7921 LDI 021 2'
 ends 0 writers --level "$book"
 ends 0 writers "$book" '$304'
-says out 'STA $304'
+says out 'STA 304'
 ends 0 writers stop.book 36D
 says out 'cell $36D: 0 instructions can change it'
 ends 0 writers stop.book 20
@@ -362,8 +368,8 @@ printf ' ORG $010\n ADIM $20,0\n ADIM $20,1\n STA $0F\n STA $0A0\n ANDIM $20,15\
 ends 0 book make twelve.book twelve.asm small.wiring small.level
 ends 0 writers twelve.book 020
 says out 'cell $020: 2 instructions'
-says out '  $011  48A0  ADIM $020, 1'
-says out '  $012  3C0F  STA $00F'
+says out '  011 48A0 ADIM 020 1'
+says out '  012 3C0F STA 00F'
 
 echo "desk: watched cells"
 # Which instructions moved the level: neither STA $00F did, since the pointer stands at the display.
@@ -372,17 +378,17 @@ cat >wanted <<'END'
 PC $011, AC 8, CY 1, asleep in HALT
 sound channel 1: output 1, count 12; channel 2: output 0, count 0
 changes, with events counted from 0:
-  event 25: $021 0 -> 2  by  $016  7921  LDI $021, 2
-  event 573: $021 2 -> 1  by  $02B  3C21  STA $021
-  event 23057: $020 0 -> 1  by  $027  3C20  STA $020
-  event 23077: $021 1 -> 0  by  $02B  3C21  STA $021
+  event 25: $021 0 -> 2  by  016 7921 LDI 021 2
+  event 573: $021 2 -> 1  by  02B 3C21 STA 021
+  event 23057: $020 0 -> 1  by  027 3C20 STA 020
+  event 23077: $021 1 -> 0  by  02B 3C21 STA 021
 cell $020 (high digit of the level): 1 change; of 4 instructions that can change it 1 did, and these never:
-  $015  7820  LDI $020, 0
-  $04A  3C0F  STA $00F  ; wherever the pointer $012, $011, $010 stands
-  $04D  3C0F  STA $00F  ; wherever the pointer $012, $011, $010 stands
+  015 7820 LDI 020 0
+  04A 3C0F STA 00F  ; wherever the pointer $012, $011, $010 stands
+  04D 3C0F STA 00F  ; wherever the pointer $012, $011, $010 stands
 cell $021 (low digit of the level): 3 changes; of 4 instructions that can change it 2 did, and these never:
-  $04A  3C0F  STA $00F  ; wherever the pointer $012, $011, $010 stands
-  $04D  3C0F  STA $00F  ; wherever the pointer $012, $011, $010 stands
+  04A 3C0F STA 00F  ; wherever the pointer $012, $011, $010 stands
+  04D 3C0F STA 00F  ; wherever the pointer $012, $011, $010 stands
 END
 ends 0 run "$book" "$script" --watch-level
 same out wanted
@@ -400,13 +406,13 @@ same out wanted
 ends 0 run "$book" "$script" --save watched.state --show --digits 2
 cp out plain.out
 ends 0 run "$book" "$script" --save watched.state --force --show --digits 2 --watch '$304' --watch-level
-says out '  event 768: $304 0 -> 1  by  $044  3F04  STA $304'
+says out '  event 768: $304 0 -> 1  by  044 3F04 STA 304'
 says out 'cell $304: 2 changes; of 3 instructions that can change it 1 did, and these never:'
-grep -v -e '^changes, ' -e '^  event ' -e '^cell \$' -e '^  \$' out >rest.out
+grep -v -e '^changes, ' -e '^  event ' -e '^cell \$' -e '^  [0-9A-F]\{3\} [0-9A-F]\{4\} ' out >rest.out
 same rest.out plain.out
 same watched.state end.state
 ends 0 run "$book" "$script" --watch 300
-says out '  by  $04A  3C0F  STA $00F  ; wherever the pointer $012, $011, $010 stands'
+says out '  by  04A 3C0F STA 00F  ; wherever the pointer $012, $011, $010 stands'
 ends 0 run "$book" "$script" --watch 0x16F
 says out 'cell $16F: 0 changes; of 2 instructions that can change it 0 did, and these never:'
 ends 0 run "$book" "$script" --watch 021 --stop 010
@@ -423,7 +429,7 @@ says out 'cell $36D: 0 changes; of 0 instructions that can change it 0 did'
 ends 1 run stop.book nine.script --watch 20
 says err 'refused by 6, value 2'
 says out '2 of 9 events done; stopped before a word that is no instruction'
-says out '  event 0: $020 0 -> 9  by  $000  7CA0  LDI $020, 9'
+says out '  event 0: $020 0 -> 9  by  000 7CA0 LDI 020 9'
 says out 'cell $020: 1 change; of 1 instruction that can change it 1 did'
 # What is refused is not run.
 : >nothing
@@ -444,7 +450,7 @@ proved=$desk
 desk=$forgetful
 ends 3 run "$book" "$script" --watch-level
 says out '29608 of 29608 events done'
-says out '  event 25: $021 0 -> 2  by  $016  7921  LDI $021, 2'
+says out '  event 25: $021 0 -> 2  by  016 7921 LDI 021 2'
 says err 'desk: FAULT: event 25 changed cell $021 at $016, which its list of writers does not have'
 says err 'report it'
 ends 3 demo "$examples"
@@ -772,8 +778,8 @@ cat >wanted <<'END'
 PC $007, AC 15, CY 0, running
 sound channel 1: output 0, count 0; channel 2: output 0, count 0
 changes, with events counted from 0:
-  event 4: $020 0 -> 3  by  $004  3C20  STA $020
-  event 6: $021 0 -> 15  by  $006  3C21  STA $021
+  event 4: $020 0 -> 3  by  004 3C20 STA 020
+  event 6: $021 0 -> 15  by  006 3C21 STA 021
 cell $020 (high digit of the level): 1 change; of 1 instruction that can change it 1 did
 cell $021 (low digit of the level): 1 change; of 1 instruction that can change it 1 did
 END
@@ -808,6 +814,313 @@ says out "Timer0's low nibble is frozen as 0 until \$004 is read"
 { head -c 1067 end.state; printf '\017\001'; } >frozen.state
 ends 0 run "$book" empty.script --state frozen.state
 says out "Timer0's low nibble is frozen as 15 until \$004 is read"
+
+echo "desk: programs on paper"
+# line_is NUMBER TEXT: the last run's output has this line at that place.
+line_is() {
+    if [ "$(sed -n "$1p" out)" = "$2" ]; then ok; else wrong "$said: line $1 is '$(sed -n "$1p" out)', not '$2'"; fi
+}
+
+ends 0 listing "$book"
+quiet
+cp out example.lst
+line_is 1 '000 E012 JMP 012'
+line_is 17 '010 D800 HALT'
+line_is 20 '013 7A07 LDI 007 4'
+line_is 26 '019 7F22 LDI 022 E'
+line_is 49 '030 7810 LDI 010 0'
+line_is 261 '104 D066 RTNW 6 6'
+line_is 512 '1FF F7FF TJMP'
+line_is 4096 'FFF FFFF NOP'
+line_is 4097 ''
+# The paper's own lines.
+printf ' ORG $011\n ADIM $020, 1\n ORG $013\n STA $0A0\n ORG $020\n DAA $07F\n ORG $022\n RTNW 4, 2\n ORG $026\n JMP $ABC
+ ORG $029\n DW $CB80\n ORG $A34\n BNC $923\n' >paper.asm
+ends 0 book make paper.book paper.asm small.wiring small.level
+ends 0 listing paper.book
+line_is 18 '011 48A0 ADIM 020 1'
+line_is 20 '013 3CA0 STA 0A0'
+line_is 33 '020 CB7F DAA 07F'
+line_is 35 '022 D042 RTNW 4 2'
+line_is 39 '026 EABC JMP ABC'
+line_is 42 '029 CB80 DATA'
+line_is $((0xA34 + 1)) 'A34 8923 BNC 123'
+
+# round_trip BOOK: its program's listing, from standard output and from a file, comes back as the book's own bytes.
+round_trip() {
+    ends 0 listing "$1"
+    quiet
+    cp out trip.lst
+    ends 0 listing "$1" --out file.lst --force
+    says out "file.lst: the listing of $1, 4096 lines"
+    quiet
+    same trip.lst file.lst
+    ends 0 program file.lst trip.bin --force
+    says out 'trip.bin: a program of 8192 bytes'
+    quiet
+    tail -c +17 "$1" | head -c 8192 >wanted
+    same trip.bin wanted
+}
+
+for one in "$book" stop.book twelve.book halves.book sounding.book paper.book; do round_trip "$one"; done
+# All 65,536 words, in sixteen books.
+for sixteenth in 0 1 2 3 4 5 6 7 8 9 10 11 12 13 14 15; do
+    awk -v first=$((4096 * sixteenth)) 'BEGIN { for (at = 0; at < 4096; at++) printf " DW %d\n", first + at }' >words.asm
+    ends 0 book make words.book words.asm small.wiring small.level --force
+    round_trip words.book
+done
+# A book is made again from its program's listing.
+ends 0 program example.lst again.bin
+tail -c +8209 "$book" | head -c 48 >wiring.bin
+tail -c 5 "$book" >level.bin
+ends 0 book make again.book again.bin wiring.bin level.bin
+same again.book "$book"
+rm again.book
+
+# Where writers are shown, by desk writers or by a watched run, they have their lines of the listing.
+are_lines() {
+    sed -n -e 's/  ; wherever .*//' -e 's/^  \([0-9A-F]\{3\} [0-9A-F]\{4\} .*\)/\1/p' -e 's/^  event .*  by  //p' out | sort -u >shown
+    grep -Fx -f shown example.lst | sort >lines
+    if [ -s shown ]; then ok; else wrong "$said: no lines"; fi
+    same shown lines
+}
+ends 0 writers "$book" --level
+are_lines
+for cell in 020 022 025 027 300 304 16F; do
+    ends 0 writers "$book" $cell
+    are_lines
+done
+ends 0 run "$book" "$script" --watch 300 --watch-level
+are_lines
+
+# is_no_listing VALUE LINES...: the text in bad.lst is refused with this value and these words, and nothing else is said
+# or done.
+is_no_listing() {
+    value=$1
+    shift
+    {
+        printf 'desk: bad.lst: refused by 26, value %d: the text is no listing; ' "$value"
+        if [ "$value" -lt 4096 ]; then
+            printf 'the first line that is missing or not as it must be is line %d of the file, counted from 1, that of address %03X\n' \
+                $((value + 1)) "$value"
+        else
+            printf 'its 4096 lines are good, but more stands behind them\n'
+        fi
+        for told in "$@"; do printf '  %s\n' "$told"; done
+    } >wanted
+    ends 1 program bad.lst never.bin
+    if cmp -s err wanted; then ok; else wrong "$said: not told as it must be:"; diff err wanted; fi
+    unbegun
+    absent never.bin
+}
+
+# edited LINE EDIT WORDS...: the example's listing, edited in that line, has a bad line there.
+edited() {
+    sed "$1$2" example.lst >bad.lst
+    value=$(($1 - 1))
+    shift 2
+    is_no_listing "$value" "$@"
+}
+
+nothing='no address, no word and no mnemonic stand in it'
+: >bad.lst
+is_no_listing 0 'the file is empty; a listing has 4096 lines'
+printf '\n' >bad.lst
+is_no_listing 0 'line 1 is ""' "$nothing"
+printf 'x' >bad.lst
+is_no_listing 0 'line 1 is "x"' 'the file ends in it, and the line feed at its end is missing' \
+    'it has small letters; a listing has capitals alone' 'its first item is "x", not the address 000'
+# Cut: between lines, within one, and before the last line feed.
+head -n 19 example.lst >bad.lst
+is_no_listing 19 'the file ends before this line; a listing has 4096 lines'
+head -n 4095 example.lst >bad.lst
+is_no_listing 4095 'the file ends before this line; a listing has 4096 lines'
+{ head -n 19 example.lst; printf '013'; } >bad.lst
+is_no_listing 19 'line 20 is "013"' 'the file ends in it, and the line feed at its end is missing' \
+    'behind the address it has no word of four hexadecimal digits'
+{ head -n 19 example.lst; printf '013 7A07 LDI'; } >bad.lst
+is_no_listing 19 'line 20 is "013 7A07 LDI"' 'the file ends in it, and the line feed at its end is missing' \
+    'the word 7A07 is written LDI 007 4; its line is "013 7A07 LDI 007 4"'
+head -c $(($(wc -c <example.lst) - 1)) example.lst >bad.lst
+is_no_listing 4095 'line 4096 is "FFF FFFF NOP"' 'the file ends in it, and the line feed at its end is missing'
+# More behind the last line.
+{ cat example.lst; printf '\n'; } >bad.lst
+is_no_listing 4096 'behind the last line, that of address FFF, 1 byte stands: "\n"'
+{ cat example.lst; printf '1000 FFFF NOP\n'; } >bad.lst
+is_no_listing 4096 'behind the last line, that of address FFF, 14 bytes stand: "1000 FFFF NOP\n"'
+{ cat example.lst; printf '\032'; } >bad.lst
+is_no_listing 4096 'behind the last line, that of address FFF, 1 byte stands: "\x1A"'
+cat example.lst example.lst >bad.lst
+is_no_listing 4096 "behind the last line, that of address FFF, $(wc -c <example.lst) bytes stand: \"000 E012 JMP 012\\n001 E01F JMP 01F\\n002 D400 RTNI\\n003 D400 RTN\" and $(($(wc -c <example.lst) - 60)) bytes more"
+# Line ends, byte order marks, small letters.
+sed 's/$/\r/' example.lst >bad.lst
+is_no_listing 0 'line 1 is "000 E012 JMP 012\r"' "it ends in CR LF; a listing's lines end in LF alone"
+edited 20 's/$/\r/' 'line 20 is "013 7A07 LDI 007 4\r"' "it ends in CR LF; a listing's lines end in LF alone"
+edited 20 's/4$/5\r/' 'line 20 is "013 7A07 LDI 007 5\r"' "it ends in CR LF; a listing's lines end in LF alone" \
+    'the word 7A07 is written LDI 007 4; its line is "013 7A07 LDI 007 4"' 'LDI 007 5 is the word 7A87'
+edited 20 's/.*/\r/' 'line 20 is "\r"' "it ends in CR LF; a listing's lines end in LF alone" "$nothing"
+head -n 3 example.lst | tr '\n' '\r' >bad.lst
+is_no_listing 0 'line 1 is "000 E012 JMP 012\r001 E01F JMP 01F\r002 D400 RTNI\r"' \
+    'the file ends in it, and the line feed at its end is missing' \
+    'it has "\r"; a listing has digits, capitals, spaces and line feeds alone' \
+    'the word E012 is written JMP 012; its line is "000 E012 JMP 012"'
+{ printf '\357\273\277'; cat example.lst; } >bad.lst
+is_no_listing 0 'line 1 is "\xEF\xBB\xBF000 E012 JMP 012"' \
+    'the file begins with the byte order mark of UTF-8 (EF BB BF); a listing has none'
+printf '\357\273\277\n' >bad.lst
+is_no_listing 0 'line 1 is "\xEF\xBB\xBF"' \
+    'the file begins with the byte order mark of UTF-8 (EF BB BF); a listing has none' "$nothing"
+printf '\377\376\060\000\n\000' >bad.lst
+is_no_listing 0 'line 1 is "\xFF\xFE0\x00"' 'the file begins with the byte order mark of UTF-16 (FF FE); a listing has none' \
+    'it has "\x00"; a listing has digits, capitals, spaces and line feeds alone' 'its first item is "0\x00", not the address 000'
+printf '\376\377\000\060\000\n' >bad.lst
+is_no_listing 0 'line 1 is "\xFE\xFF\x000\x00"' \
+    'the file begins with the byte order mark of UTF-16 (FE FF); a listing has none' \
+    'it has "\x00"; a listing has digits, capitals, spaces and line feeds alone' \
+    'its first item is "\x000\x00", not the address 000'
+edited 2 's/^/\xEF\xBB\xBF/' 'line 2 is "\xEF\xBB\xBF001 E01F JMP 01F"' \
+    'it has "\xEF"; a listing has digits, capitals, spaces and line feeds alone' \
+    'its first item is "\xEF\xBB\xBF001", not the address 001'
+small='it has small letters; a listing has capitals alone'
+tr '[:upper:]' '[:lower:]' <example.lst >bad.lst
+is_no_listing 0 'line 1 is "000 e012 jmp 012"' "$small" 'the word E012 is written JMP 012; its line is "000 E012 JMP 012"'
+edited 11 's/A/a/' 'line 11 is "00a FFFF NOP"' "$small" 'the word FFFF is written NOP; its line is "00A FFFF NOP"'
+edited 20 's/7A07/7a07/' 'line 20 is "013 7a07 LDI 007 4"' "$small" \
+    'the word 7A07 is written LDI 007 4; its line is "013 7A07 LDI 007 4"'
+edited 26 's/E$/e/' 'line 26 is "019 7F22 LDI 022 e"' "$small" \
+    'the word 7F22 is written LDI 022 E; its line is "019 7F22 LDI 022 E"'
+# Blanks and other characters.
+ldi='the word 7A07 is written LDI 007 4; its line is "013 7A07 LDI 007 4"'
+alone='a listing has digits, capitals, spaces and line feeds alone'
+edited 20 's/.*//' 'line 20 is ""' "$nothing"
+edited 20 's/.*/  /' 'line 20 is "  "' "$nothing"
+edited 20 's/$/ /' 'line 20 is "013 7A07 LDI 007 4 "' 'it has a blank at its end' "$ldi"
+edited 20 's/^/ /' 'line 20 is " 013 7A07 LDI 007 4"' 'it has a blank before the address' "$ldi"
+for at in 1 2 3 4; do
+    edited 20 "s/ /  /$at" "line 20 is \"$(sed -n "20s/ /  /${at}p" example.lst)\"" \
+        'it has more than one blank between two items; one space is due' "$ldi"
+done
+edited 20 's/ /\t/2' 'line 20 is "013 7A07\tLDI 007 4"' "it has \"\\t\"; $alone" "$ldi"
+edited 20 's/007 4/$007, 4/' 'line 20 is "013 7A07 LDI $007, 4"' "it has \"\$\"; $alone" "$ldi"
+edited 20 's/007 4/007,4/' 'line 20 is "013 7A07 LDI 007,4"' "it has \",\"; $alone" "$ldi"
+edited 20 's/LDI/"\\"/' 'line 20 is "013 7A07 \"\\\" 007 4"' "it has \"\\\"\"; $alone" "$ldi"
+edited 20 's/LDI/L\xC3\xA4I/' 'line 20 is "013 7A07 L\xC3\xA4I 007 4"' "it has \"\\xC3\"; $alone" "$ldi"
+edited 20 's/007 4/007 4 ; on/' 'line 20 is "013 7A07 LDI 007 4 ; on"' "$small" "it has \";\"; $alone" "$ldi"
+# Addresses, words and what stands behind them.
+edited 20 d 'line 20 is "014 7A93 LDI 013 5"' 'its first item is "014", not the address 013'
+sed 20p example.lst >bad.lst
+is_no_listing 20 'line 21 is "013 7A07 LDI 007 4"' 'its first item is "013", not the address 014'
+edited 20 's/013 /013/' 'line 20 is "0137A07 LDI 007 4"' 'its first item is "0137A07", not the address 013'
+edited 20 's/013 /0013 /' 'line 20 is "0013 7A07 LDI 007 4"' 'its first item is "0013", not the address 013'
+edited 20 's/013 //' 'line 20 is "7A07 LDI 007 4"' 'its first item is "7A07", not the address 013'
+edited 20 's/7A07/7A0/' 'line 20 is "013 7A0 LDI 007 4"' 'behind the address it has no word of four hexadecimal digits'
+edited 20 's/7A07/7A07LDI/' 'line 20 is "013 7A07LDI LDI 007 4"' \
+    'behind the address it has no word of four hexadecimal digits'
+edited 20 's/7A07/7A0G/' 'line 20 is "013 7A0G LDI 007 4"' 'behind the address it has no word of four hexadecimal digits'
+edited 20 's/7A07/7A87/' 'line 20 is "013 7A87 LDI 007 4"' \
+    'the word 7A87 is written LDI 007 5; its line is "013 7A87 LDI 007 5"' 'LDI 007 4 is the word 7A07'
+edited 20 's/7A07/C800/' 'line 20 is "013 C800 LDI 007 4"' \
+    'the word C800 is written DATA; its line is "013 C800 DATA"' 'LDI 007 4 is the word 7A07'
+edited 20 's/7A07 .*/7A07/' 'line 20 is "013 7A07"' "$ldi"
+edited 20 's/LDI.*/DATA/' 'line 20 is "013 7A07 DATA"' "$ldi"
+edited 20 's/LDI/ADI/' 'line 20 is "013 7A07 ADI 007 4"' "$ldi" 'ADI 007 4 is the word 4207'
+edited 20 's/LDI/LOAD/' 'line 20 is "013 7A07 LOAD 007 4"' "$ldi"
+edited 20 's/007 4/007/' 'line 20 is "013 7A07 LDI 007"' "$ldi"
+edited 20 's/007 4/007 4 5/' 'line 20 is "013 7A07 LDI 007 4 5"' "$ldi"
+edited 20 's/007 4/7 4/' 'line 20 is "013 7A07 LDI 7 4"' "$ldi"
+edited 4096 's/NOP/STA 3FF/' 'line 4096 is "FFF FFFF STA 3FF"' \
+    'the word FFFF is written NOP; its line is "FFF FFFF NOP"' 'STA 3FF is the word 3FFF'
+# Long lines and long files.
+edited 20 's/$/XXXXXXXXXXXXXXXXXXXXXXXXXXXXXXXXXXXXXXXXXXX/' \
+    'line 20 is "013 7A07 LDI 007 4XXXXXXXXXXXXXXXXXXXXXXXXXXXXXXXXXXXXXXXXXX" and 1 byte more' "$ldi"
+head -c 300000 /dev/zero | tr '\000' 7 >bad.lst
+sevens=777777777777
+is_no_listing 0 "line 1 is \"$sevens$sevens$sevens$sevens$sevens\" and 299940 bytes more" \
+    'the file ends in it, and the line feed at its end is missing' \
+    "its first item is \"$sevens\" and 299988 bytes more, not the address 000"
+head -c 1048576 /dev/zero | tr '\000' '\n' >bad.lst
+is_no_listing 0 'line 1 is ""' "$nothing"
+printf '\n' >>bad.lst
+ends 2 program bad.lst never.bin
+says err 'bad.lst is too long: more than 1048576 bytes'
+ends 1 program "$book" never.bin
+says err "$book: refused by 26, value 0"
+absent never.bin
+# What is in the way, or wrong. What is refused leaves the file.
+sed '20s/LDI/ldi/' example.lst >bad.lst
+cp again.bin kept
+ends 1 program bad.lst again.bin --force
+same again.bin kept
+ends 2 program example.lst again.bin
+says err 'again.bin exists and is left as it is; --force writes over it'
+same again.bin kept
+ends 0 program file.lst again.bin --force
+same again.bin trip.bin
+cp example.lst kept
+ends 2 listing stop.book --out example.lst
+says err 'example.lst exists and is left as it is; --force writes over it'
+unbegun
+same example.lst kept
+ends 0 listing stop.book --out stop.lst
+ends 0 listing stop.book
+same out stop.lst
+ends 0 listing "$book" --out stop.lst --force
+same stop.lst example.lst
+for odd in pipe link dangling folder; do
+    ends 2 listing "$book" --out $odd --force
+    says err "cannot write $odd: it is no ordinary file"
+    unbegun
+    ends 2 program example.lst $odd --force
+    says err "cannot write $odd: it is no ordinary file"
+    unbegun
+done
+if [ -p pipe ] && [ -L link ] && [ -L dangling ] && [ -d folder ]; then ok; else wrong "something odd was replaced"; fi
+ends 2 listing "$book" --out nowhere/a.lst
+says err 'cannot write nowhere/a.lst'
+unbegun
+ends 2 program example.lst nowhere/a.bin
+says err 'cannot write nowhere/a.bin'
+ends 2 listing nowhere.book
+says err 'cannot read nowhere.book'
+ends 2 listing folder
+says err 'cannot read folder: Is a directory'
+ends 2 program nowhere.lst never.bin
+says err 'cannot read nowhere.lst'
+ends 2 program folder never.bin
+says err 'cannot read folder: Is a directory'
+ends 1 listing example.lst --out never.lst
+says err 'example.lst: refused by 10, value 0'
+unbegun
+ends 2 listing "$book" --out
+says err 'a value is due after --out'
+ends 2 listing "$book" --force
+says err '--force is for the file of --out'
+ends 2 listing "$book" one.lst
+says err 'one word too many: one.lst'
+ends 2 program example.lst
+says err 'something is missing'
+ends 2 program example.lst never.bin more
+says err 'one word too many: more'
+ends 2 program example.lst never.bin --out never.lst
+says err 'unknown option --out'
+absent never.bin
+absent never.lst
+no_parts
+(umask 027 && "$desk" listing "$book" --out masked.lst >/dev/null)
+case $(ls -l masked.lst) in -rw-r-----*) ok ;; *) wrong "a listing's mode does not follow the umask" ;; esac
+# A listing that lacks a line is found out.
+proved=$desk
+desk=$torn
+for command in "listing $book" "writers $book --level" "book check $book" \
+    'book make never.book stop.asm small.wiring small.level'; do
+    # shellcheck disable=SC2086
+    ends 3 $command
+    says err "desk: FAULT: the library's listing: a line is missing, too short or too long"
+    says err 'report it'
+    unbegun
+done
+absent never.book
+desk=$proved
 
 echo "desk: books"
 ends 0 book check "$book"
@@ -861,7 +1174,7 @@ done
 absent never.book
 for at in 0 1 2 5 15 8210 8256 8260; do
     { head -c "$at" "$book"; printf '\377'; tail -c +$((at + 2)) "$book"; } >damaged.book
-    for command in 'book check' 'writers --level'; do
+    for command in 'book check' 'writers --level' listing; do
         # shellcheck disable=SC2086
         ends 1 $command damaged.book
         says err 'damaged.book: refused by 1'
@@ -881,14 +1194,41 @@ ends 2 book check nowhere.book
 ends 2 book check folder
 
 echo "desk: the assembler"
-# Each of these lines is refused, with its number.
-for bad in 'FOO $1' 'LDI $020' 'LDI $080, 1' 'LDI $020, 16' 'STA $400' 'JMP $1000' 'BNZ $800' 'DAA $80' 'RTNW 16, 0' \
-    'RTNW 0' 'NOP 5' 'LDA nowhere' 'ORG $1000' 'DW $10000' 'x EQU y' 'a: a: NOP' 'LDI EQU 5' 'STA $020 $021' \
-    'JMP 5 -' '5' 'LDA $' 'STA 0 - 1'; do
+# Each of these lines is refused, with its number and the words behind the bar.
+while IFS='|' read -r bad words; do
     printf 'NOP\n%s\n' "$bad" >bad.asm
     ends 2 book make never.book bad.asm small.wiring small.level
-    says err 'bad.asm:2: '
-done
+    says err "bad.asm:2: $words"
+done <<'END'
+FOO $1|unknown mnemonic: FOO
+DATA|unknown mnemonic: DATA
+LDI $020|a comma and a second operand are due here:
+LDI $080, 1|the cell is 0 to $7F here, not 128
+LDI $020, 16|the number is 0 to $F here, not 16
+STA $400|the cell is 0 to $3FF here, not 1024
+JMP $1000|the target is 0 to $FFF here, not 4096
+BNZ $1000|the target is 0 to $FFF here, not 4096
+BNZ $800|the target $800 lies in the other half of the program
+CALL $FFF|the target $FFF lies in the other half of the program
+DAA $80|the cell is 0 to $7F here, not 128
+RTNW 16, 0|the high number is 0 to $F here, not 16
+RTNW 0, 16|the number is 0 to $F here, not 16
+RTNW 0|a comma and a second operand are due here:
+NOP 5|not understood: 5
+STA|a number up to $FFFF or a name is due here:
+LDA nowhere|unknown name: nowhere
+ORG $1000|program addresses are 0 to $FFF
+DW $10000|a number up to $FFFF or a name is due here: $10000
+x EQU y|unknown name: y
+a: a: NOP|unknown mnemonic: a
+LDI EQU 5|a mnemonic cannot be a name: LDI
+sta: NOP|a mnemonic cannot be a name: sta
+STA $020 $021|not understood: $021
+JMP 5 -|a number up to $FFFF or a name is due here:
+5|not understood: 5
+LDA $|a number up to $FFFF or a name is due here: $
+STA 0 - 1|the cell is 0 to $3FF here, not -1
+END
 printf 'ORG 5\nNOP\nORG 5\nNOP\n' >bad.asm
 ends 2 book make never.book bad.asm small.wiring small.level
 says err 'bad.asm:4: there is a word at $005 already'
@@ -896,6 +1236,10 @@ printf 'ORG $FFF\nNOP\nNOP\n' >bad.asm
 ends 2 book make never.book bad.asm small.wiring small.level
 says err 'bad.asm:3: the program ends at $FFF'
 absent never.book
+printf 'DATA EQU 3\nDATA_: LDI $20, DATA\n' >good.asm
+ends 0 book make named.book good.asm small.wiring small.level
+ends 0 listing named.book
+line_is 1 '000 79A0 LDI 020 3'
 printf 'size EQU 2\nhere: ldi $20, size+1 ; a comment\r\n\n  BNZ here\n JMP up\n ORG $800\nup: CALL up+size\n DW $1234-4' >good.asm
 ends 0 book make good.book good.asm small.wiring small.level
 printf '\171\240\200\000\350\000' >wanted
@@ -908,6 +1252,8 @@ same got wanted
 echo "desk: output that cannot be written"
 if [ -w /dev/full ]; then
     "$desk" --help >/dev/full 2>err && wrong "a full disk is not noticed" || ok
+    says err 'could not be written'
+    "$desk" listing "$book" >/dev/full 2>err && wrong "a full disk is not noticed" || ok
     says err 'could not be written'
 fi
 no_parts
