@@ -4,3 +4,4 @@ pub mod Kept
 pub mod Leaves
 pub mod Back
 pub mod Paper
+pub mod PaperBack

@@ -17,7 +17,8 @@ use Rattle.mnemonics.specs.declared.Kind.{Kind}
 use Rattle.mnemonics.specs.declared.Shown.{Shown}
 use Rattle.mnemonics.specs.Mnemonics.{Fair, Fits, rowOf, shownOf}
 use Rattle.mnemonics.specs.Names.{nameOf, lettersIn}
-use Rattle.mnemonics.proofs.Rows.{row-letters, row-name, letters-some, kinds-fair, word-fits}
+use Rattle.mnemonics.proofs.Laws.{word-fits}
+use Rattle.mnemonics.proofs.Rows.{row-letters, row-name, letters-some, kinds-fair}
 use Rattle.line.specs.Line.{spacedOf, operandOf, operandIn, widthOf, operandsOf, lineOf, wordIn, goodOf}
 
 -- Lengths.

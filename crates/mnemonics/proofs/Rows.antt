@@ -1,4 +1,4 @@
--- Computed over all rows and all words: each row's name is its letters, and what a word shows fits its row.
+-- Computed over all rows: each row's name is its letters, and each operand's digits say every number that it may be.
 use mathlib.Core.Path.{_≡_, _∙_, refl, sym, ap}
 use mathlib.Core.Bool.{Bool, true}
 use mathlib.Core.List.{List, [], _∷_, _++_, append-nil}
@@ -11,12 +11,9 @@ use Rattle.lent.specs.Lent.{pick, both}
 use Rattle.lent.proofs.Laws.{both-true, by-choice}
 use Rattle.text.specs.Text.{lettersOf, begins}
 use Rattle.text.proofs.Laws.{begins-split, letters-length}
-use Rattle.word.specs.Word.{decodeOf, accumulatorOf, transferOf, controlOf}
-use Rattle.word.specs.Codes.{operationOf, immediateOf, conditionOf}
 use Rattle.word.proofs.Every.{every, every-at}
 use Rattle.mnemonics.specs.declared.Kind.{Kind}
-use Rattle.mnemonics.specs.declared.Shown.{Shown}
-use Rattle.mnemonics.specs.Mnemonics.{Fair, table, rowOf, shownOf, Fits}
+use Rattle.mnemonics.specs.Mnemonics.{Fair, table, rowOf}
 use Rattle.mnemonics.specs.Names.{names, nameOf, lettersIn}
 use Rattle.mnemonics.proofs.Laws.{firstBy, secondBy, kinds-by}
 
@@ -81,29 +78,3 @@ kinds-fair n h =
     (rw z at (every-at (λ n. both (fair (firstBy n)) (fair (secondBy n))) 6 0 n all-fair (omega arith))) in
     let k = kinds-by n h in
     (rw (← (k .0)) (is-fair (firstBy n) (t .0)), rw (← (k .1)) (is-fair (secondBy n) (t .1)))
-
--- What a word shows.
-
-abbrev fits : Shown → Bool
-fits s = both (ltb (s .row) 44) (both (ltb (s .first) (firstBy (s .row) .below)) (ltb (s .second) (secondBy (s .row) .below)))
-
-all-fit : every (λ w. fits (shownOf (decodeOf w))) 16 0 ≡ true
-unfolding every shownOf decodeOf accumulatorOf transferOf controlOf operationOf immediateOf conditionOf firstBy secondBy
-all-fit = refl
-
-is-fit : (s : Shown) → fits s ≡ true → Fits s
-is-fit s e =
-    let t = both-true (ltb (s .row) 44) _ e in
-    let u = both-true (ltb (s .first) (firstBy (s .row) .below)) _ (t .1) in
-    let r = ltb-true (s .row) 44 (t .0) in
-    let k = kinds-by (s .row) r in
-    record {
-      row = r;
-      first = rw (← (k .0)) (ltb-true (s .first) (firstBy (s .row) .below) (u .0));
-      second = rw (← (k .1)) (ltb-true (s .second) (secondBy (s .row) .below) (u .1));
-    }
-
-pub word-fits : (w : ℕ) → w < 65536 → Fits (shownOf (decodeOf w))
-word-fits w h =
-    let z : 0 + w ≡ w = omega arith in
-    is-fit (shownOf (decodeOf w)) (rw z at (every-at (λ w. fits (shownOf (decodeOf w))) 16 0 w all-fit h))

@@ -1,10 +1,8 @@
 // The mnemonics in one table, with the kinds of their operands, and what each word shows on paper (02, P3).
-use word::Decoded;
-use word::Instruction;
 ghost use mathlib.Core.Path.{_≡_};
 ghost use Prim.Native.Nat.{_<_};
 ghost use Rattle.word.specs.Word.{decodeOf};
-ghost use Rattle.mnemonics.specs.Mnemonics.{rowOf, shown, instructionShown, shownOf};
+ghost use Rattle.mnemonics.specs.Mnemonics.{rowOf, shownOf};
 ghost use Rattle.mnemonics.specs.Names.{nameOf, lettersIn};
 
 // A kind of operand: how many digits it has, and below which number it is. No digits: no operand.
@@ -168,85 +166,95 @@ pub fn second(row: usize) -> Kind
     }
 }
 
-// A row without operands.
-fn bare(row: usize) -> Shown
-    ensures { λ r. ⌜ r ≡ shown row 0 0 ⌝ }
+// The row that a word shows.
+fn row_of(word: u16) -> usize
+    ensures { λ r. ⌜ r ≡ shownOf (decodeOf word) .row ⌝ }
 {
-    Shown {
-        row,
-        first: 0,
-        second: 0,
+    if word < 0x4000 {
+        return word as usize / 1024;
     }
+    if word < 0xC800 {
+        return word as usize / 2048 + 8;
+    }
+    if word / 4096 == 14 {
+        return 39;
+    }
+    if word / 128 == 0x196 {
+        return 33;
+    }
+    if word / 128 == 0x19A {
+        return 34;
+    }
+    if word / 256 == 0xD0 {
+        return 35;
+    }
+    if word == 0xD400 {
+        return 36;
+    }
+    if word == 0xD800 {
+        return 37;
+    }
+    if word == 0xDC00 {
+        return 38;
+    }
+    if word == 0xF000 {
+        return 40;
+    }
+    if word == 0xF7FF {
+        return 41;
+    }
+    if word == 0xFFFF {
+        return 42;
+    }
+    DATA
 }
 
-// A row with one operand.
-fn one(row: usize, first: u16) -> Shown
-    ensures { λ r. ⌜ r ≡ shown row first 0 ⌝ }
+// The number of a word's first operand, by its row.
+fn first_of(word: u16, row: usize) -> u16
+    requires { ⌜ row ≡ shownOf (decodeOf word) .row ⌝ }
+    ensures { λ r. ⌜ r ≡ shownOf (decodeOf word) .first ⌝ }
 {
-    Shown {
-        row,
-        first,
-        second: 0,
+    if row < 16 {
+        return word % 1024;
     }
+    if row < 24 {
+        return word % 128;
+    }
+    if row < 33 {
+        return word % 2048;
+    }
+    if row < 35 {
+        return word % 128;
+    }
+    if row == 35 {
+        return word / 16 % 16;
+    }
+    if row == 39 {
+        return word % 4096;
+    }
+    0
 }
 
-// A row with two operands, the second below 256.
-fn two(row: usize, first: u16, second: u8) -> Shown
-    ensures { λ r. ⌜ r ≡ shown row first second ⌝ }
+// The number of a word's second operand, by its row.
+fn second_of(word: u16, row: usize) -> u16
+    requires { ⌜ row ≡ shownOf (decodeOf word) .row ⌝ }
+    ensures { λ r. ⌜ r ≡ shownOf (decodeOf word) .second ⌝ }
 {
-    Shown {
-        row,
-        first,
-        second: second as u16,
+    if row / 8 == 2 {
+        return word / 128 % 16;
     }
-}
-
-// What an instruction shows.
-fn instruction(i: Instruction) -> Shown
-    ensures { λ r. ⌜ r ≡ instructionShown i ⌝ }
-{
-    match i {
-        Instruction::Accumulator(operation, address) => one(
-            word::operation_code(operation) as usize * 2,
-            address,
-        ),
-        Instruction::Memory(operation, address) => one(
-            word::operation_code(operation) as usize * 2 + 1,
-            address,
-        ),
-        Instruction::Lda(address) => one(14, address),
-        Instruction::Sta(address) => one(15, address),
-        Instruction::Immediate(operation, x, immediate) => two(
-            word::immediate_code(operation) as usize + 8,
-            x,
-            immediate,
-        ),
-        Instruction::Ldi(x, immediate) => two(23, x, immediate),
-        Instruction::Branch(condition, target) => one(
-            word::condition_code(condition) as usize + 8,
-            target,
-        ),
-        Instruction::Call(target) => one(32, target),
-        Instruction::Daa(x) => one(33, x),
-        Instruction::Das(x) => one(34, x),
-        Instruction::Rtnw(high, low) => two(35, high as u16, low),
-        Instruction::Rtni => bare(36),
-        Instruction::Halt => bare(37),
-        Instruction::Stop => bare(38),
-        Instruction::Jmp(target) => one(39, target),
-        Instruction::Shr => bare(40),
-        Instruction::Tjmp => bare(41),
-        Instruction::Nop => bare(42),
+    if row == 35 {
+        return word % 16;
     }
+    0
 }
 
 // What a word shows.
 pub fn show(word: u16) -> Shown
     ensures { λ r. ⌜ r ≡ shownOf (decodeOf word) ⌝ }
 {
-    let d = word::decode(word);
-    match d {
-        Decoded::Listed(i) => instruction(i),
-        Decoded::Refused(_) => bare(DATA),
-    }
+    let row = row_of(word);
+    let first = first_of(word, row);
+    let second = second_of(word, row);
+    Shown { row, first, second }
 }

@@ -312,7 +312,7 @@ fn word_of(i: Instruction) -> u32
 }
 
 // The code of an operation.
-pub fn operation_code(operation: Operation) -> u8
+fn operation_code(operation: Operation) -> u8
     ensures { λ r. ⌜ r ≡ operationCode operation ⌝ }
 {
     match operation {
@@ -327,7 +327,7 @@ pub fn operation_code(operation: Operation) -> u8
 }
 
 // The code of an operation with an immediate.
-pub fn immediate_code(operation: ImmediateOperation) -> u8
+fn immediate_code(operation: ImmediateOperation) -> u8
     ensures { λ r. ⌜ r ≡ immediateCode operation ⌝ }
 {
     match operation {
@@ -342,7 +342,7 @@ pub fn immediate_code(operation: ImmediateOperation) -> u8
 }
 
 // The code of a branch.
-pub fn condition_code(condition: Condition) -> u8
+fn condition_code(condition: Condition) -> u8
     ensures { λ r. ⌜ r ≡ conditionCode condition ⌝ }
 {
     match condition {

@@ -1,0 +1,80 @@
+-- A kind 1 body passes through paper unchanged: what C writes as a listing reads back as the same bytes, and a text that is taken is the listing of the program that then stands in the room.
+use Prim.Native.Nat.{ℕ, zero, suc, _+_, _*_, _/_, _%_, _<_, _≤_}
+use mathlib.Core.Path.{_≡_, _∙_, refl, sym, ap}
+use mathlib.Core.List.{List, [], _∷_, _++_, append-assoc}
+use native.Mathlib.Omega.{arith}
+use lib.Dec.{ltb}
+use lib.ListN.{length, take, drop}
+use lib.Seq.{take-all, take-suc, getD-at}
+use borrow.Author.Tests.{le-ltb, ltb-true, ltb-false}
+use Rattle.lent.specs.Lent.{at, over, pairAtOf}
+use Rattle.lent.proofs.Laws.{test, by-test, by-lt, at-past}
+use Rattle.refusal.specs.Told.{doneTold, refusedTold}
+use Rattle.wire.specs.Words.{wordsOf, pairsOf}
+use Rattle.wire.proofs.Laws.{length-words, pairs-front, words-at}
+use Rattle.wire.proofs.Trips.{words-back}
+use Rattle.paper.specs.Listing.{listingOf, goodLines, whole, AllWords, Listed}
+use Rattle.paper.proofs.RoundTrip.{lines-back, listed-whole, whole-listed}
+use Rattle.host.specs.Listings.{Stored, stored, bytesStored, hostListingReadOf}
+
+abbrev AllBytes : List ℕ → Type 0
+AllBytes l = (i : ℕ) → at l i < 256
+
+-- two bytes as a word, and that word as two bytes
+pair-back : (h l : ℕ) → h < 256 → l < 256 → ((256 * h + l) / 256 % 256 ≡ h) × ((256 * h + l) % 256 ≡ l)
+pair-back h l p q = (omega arith, omega arith)
+
+bytes-back : (b : List ℕ) (n : ℕ) → n * 2 ≤ length b → AllBytes b → pairsOf (wordsOf b n) n ≡ take (n * 2) b
+unfolding pairsOf wordsOf pairAtOf
+bytes-back b zero h f = refl
+bytes-back b (suc n) h f =
+    let w = wordsOf b n in
+    let x = 256 * at b (n * 2) + at b (n * 2 + 1) in
+    let p = pair-back (at b (n * 2)) (at b (n * 2 + 1)) (f (n * 2)) (f (n * 2 + 1)) in
+    let z : suc n * 2 ≡ suc (suc (n * 2)) = omega arith in
+    let o : n * 2 + 1 ≡ suc (n * 2) = omega arith in
+    let s : take (suc (suc (n * 2))) b ≡ take (n * 2) b ++ (at b (n * 2) ∷ at b (n * 2 + 1) ∷ []) =
+    take-suc b (suc (n * 2)) 0 (omega arith)
+    ∙ (ap (λ (l : List ℕ). l ++ (at b (suc (n * 2)) ∷ [])) (take-suc b (n * 2) 0 (omega arith))
+    ∙ (append-assoc (take (n * 2) b) (at b (n * 2) ∷ []) (at b (suc (n * 2)) ∷ []) ∙ rw o)) in
+    let i : at (w ++ (x ∷ [])) n ≡ x = getD-at w x [] 0 n (length-words b n) in
+    rw (z, s, i, p .0, p .1)
+    (ap (λ (l : List ℕ). l ++ (at b (n * 2) ∷ at b (n * 2 + 1) ∷ []))
+    (pairs-front w (x ∷ []) n (omega (arith, length-words b n)) ∙ bytes-back b n (omega arith) f))
+
+words-sized : (b : List ℕ) → AllBytes b → AllWords (wordsOf b 4096)
+unfolding pairAtOf
+words-sized b f i =
+    test (ltb i 4096)
+    (λ t. rw (words-at b 4096 i (ltb-true i 4096 t)) (omega (arith, f (i * 2), f (i * 2 + 1))))
+    (λ t. let k = ltb-false i 4096 t in rw (← (at-past (wordsOf b 4096) i (omega (arith, length-words b 4096)))) (omega arith))
+
+-- a body's listing, read by C into a room that has room for it
+pub listing-back : (body room : List ℕ) → length body ≡ 8192 → AllBytes body → 8192 ≤ length room → hostListingReadOf (listingOf (wordsOf body 4096)) room ≡ stored doneTold (over body room)
+unfolding hostListingReadOf bytesStored
+listing-back body room n f h =
+    let p = wordsOf body 4096 in
+    let m = length-words body 4096 in
+    let s = words-sized body f in
+    let k : length body ≤ 8192 = omega arith in
+    let w = listed-whole (listingOf p) p (record { many = m; sized = s; is = refl }) in
+    let b : pairsOf p 4096 ≡ body = bytes-back body 4096 (omega arith) f ∙ take-all 8192 body k in
+    rw (w, lines-back p m s, le-ltb (length room) 8192 h, b)
+
+-- a text that C is told was read: it is the listing of the program that stands in the room
+abbrev Taken : List ℕ → Stored → Type 0
+Taken t r = r .told .number ≡ 0 → Listed t (wordsOf (r .room) 4096)
+
+pub listing-taken : (t room : List ℕ) → Taken t (hostListingReadOf t room)
+unfolding hostListingReadOf bytesStored refusedTold doneTold over
+listing-taken t room =
+    let g = goodLines t in
+    by-test (Taken t) (whole t) _ _
+    (λ a. by-lt (Taken t) (length room) 8192 _ _ (λ k e. absurd (omega (arith, e)))
+    (λ k e.
+    let l = whole-listed t a in
+    let h : length g ≤ 4096 = omega (arith, l .many) in
+    let w : wordsOf (pairsOf g 4096 ++ drop (length (pairsOf g 4096)) room) 4096 ≡ g =
+    words-back g (drop (length (pairsOf g 4096)) room) 4096 (omega (arith, l .many)) (l .sized) ∙ take-all 4096 g h in
+    rw w l))
+    (λ a e. absurd (omega (arith, e)))
