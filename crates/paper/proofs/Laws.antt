@@ -102,9 +102,9 @@ module _ (t o : List ℕ) {n e : ℕ} (f : n ≡ length (goodLines t)) (g : e �
   too-few h = rw (← f, ne-eqb n 4096 h)
 
   module _ (h : n ≡ 4096) where
-    pub more-behind : (e ≡ length t → ⊥) → outcome (taken.Refused (Listing n)) o ≡ readOf t o
+    pub more-behind : (e ≡ length t → ⊥) → outcome (taken.Refused (Listing 4096)) o ≡ readOf t o
     unfolding readOf whole
-    more-behind k = rw (← f, ← g, eq-eqb n 4096 h, ne-eqb e (length t) k)
+    more-behind k = rw (← f, ← g, eq-eqb n 4096 h, ne-eqb e (length t) k, h)
 
     module _ (k : e ≡ length t) where
       pub few-words : length o < 4096 → outcome (taken.Refused (Room 4096)) o ≡ readOf t o

@@ -109,7 +109,7 @@ pub fn read(text: &[u8], room: &mut [u16]) -> Taken
         return Taken::Refused(Refusal::Listing(f.lines as u64));
     }
     if f.end != text.len() {
-        return Taken::Refused(Refusal::Listing(f.lines as u64));
+        return Taken::Refused(Refusal::Listing(WORDS as u64));
     }
     if room.len() < WORDS {
         return Taken::Refused(Refusal::Room(WORDS as u64));
