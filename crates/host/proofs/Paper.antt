@@ -17,9 +17,9 @@ use Rattle.wire.proofs.Laws.{length-pairs}
 use Rattle.paper.specs.declared.Taken.{Taken}
 use Rattle.paper.specs.declared.Taken.the-variants.{Words, Refused}
 use Rattle.paper.specs.declared.Written.{Written}
-use Rattle.paper.specs.Listing.{listingOf, goodLines, whole, storedOf, readOf, writeOf, writtenTold}
+use Rattle.paper.specs.Listing.{goodLines, whole, storedOf, readOf, writeOf, writtenTold, takenTold}
 use Rattle.host.specs.Told.{filled, roomTold}
-use Rattle.host.specs.Listings.{Stored, stored, bytesStored, hostListingReadOf}
+use Rattle.host.specs.Listings.{bytesOf, takenOf, Stored, stored, storedTold, hostListingReadOf}
 
 pub written-at : {i j : Written} {r : Counted} (count : ℕ) → i ≡ j → r ≡ writtenTold j count → r ≡ writtenTold i count
 written-at count p q = q ∙ sym (ap (λ k. writtenTold k count) p)
@@ -66,26 +66,26 @@ module _ (t o w : List ℕ) (h : length o ≡ 4096) where
       r .1 ∙ (ap (λ (l : List ℕ). goodLines t ++ l) (drop-of-length-le o d) ∙ append-nil (goodLines t))
 
 module _ (t o w room : List ℕ) (a : Taken) (h : length o ≡ 4096) (e : outcome a w ≡ readOf t o) where
-  pub read-told : {r : Stored} → a ≡ Words → r ≡ bytesStored w room → r ≡ hostListingReadOf t room
-  unfolding hostListingReadOf
+  pub read-told : {r : Stored} → a ≡ Words → r ≡ storedTold (bytesOf w room) → r ≡ hostListingReadOf t room
+  unfolding hostListingReadOf takenOf
   read-told k u =
       let x : outcome Words w ≡ readOf t o = rw (← k) e in
       rw (read-is t o w h x .0, ← (read-words t o w h x)) u
 
   pub refused-told : (why : Refusal) {s : Said} → a ≡ Refused why → s ≡ refusedTold why → stored s room ≡ hostListingReadOf t room
-  unfolding hostListingReadOf
+  unfolding hostListingReadOf takenOf storedTold takenTold
   refused-told why k u =
       let x = refused-is t o w h why (rw (← k) e) in
       rw (x .0, ← (x .1), u)
 
 -- The bytes of 4,096 words in the room, or 7.
 module _ (w room : List ℕ) where
-  pub no-room : {s : Said} → length room < 8192 → s ≡ refusedTold (Room 8192) → stored s room ≡ bytesStored w room
-  unfolding bytesStored
+  pub no-room : {s : Said} → length room < 8192 → s ≡ refusedTold (Room 8192) → stored s room ≡ storedTold (bytesOf w room)
+  unfolding bytesOf storedTold takenTold
   no-room h e = rw (lt-ltb (length room) 8192 h, e)
 
-  pub in-room : {o : List ℕ} {s : Said} → 8192 ≤ length room → o ≡ pastedOf room 0 (pairsOf w 4096) → s ≡ doneTold → stored s o ≡ bytesStored w room
-  unfolding bytesStored over
+  pub in-room : {o : List ℕ} {s : Said} → 8192 ≤ length room → o ≡ pastedOf room 0 (pairsOf w 4096) → s ≡ doneTold → stored s o ≡ storedTold (bytesOf w room)
+  unfolding bytesOf storedTold takenTold over
   in-room h e g =
       let f = pasted-front room (pairsOf w 4096) (omega (arith, length-pairs w 4096)) in
       rw (e, f, g, le-ltb (length room) 8192 h)

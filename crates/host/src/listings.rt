@@ -9,7 +9,7 @@ ghost use Rattle.refusal.specs.Told.{said, counted};
 ghost use Rattle.wire.specs.Words.{wordsOf};
 ghost use Rattle.paper.specs.Listing.{writeOf, writtenTold};
 ghost use Rattle.host.specs.Told.{filled, roomTold};
-ghost use Rattle.host.specs.Listings.{stored, bytesStored, hostListingWriteOf, hostListingReadOf};
+ghost use Rattle.host.specs.Listings.{bytesOf, stored, storedTold, hostListingWriteOf, hostListingReadOf};
 
 fn tell_written(a: Written, count: &mut u64, value: &mut u64) -> u32
     ensures { λ r. ⌜ counted (said r (now (value .exit))) (now (count .exit)) ≡ writtenTold a (now (count .entry)) ⌝ }
@@ -47,7 +47,7 @@ pub extern "C" fn galhoveia_listing_write(
 
 // A program's words as bytes, in the room.
 fn store(ws: &[u16], room: &mut [u8], value: &mut u64) -> u32
-    ensures { λ r. ⌜ stored (said r (now (value .exit))) (now (room .exit)) ≡ bytesStored (now (ws .entry)) (now (room .entry)) ⌝ }
+    ensures { λ r. ⌜ stored (said r (now (value .exit))) (now (room .exit)) ≡ storedTold (bytesOf (now (ws .entry)) (now (room .entry))) ⌝ }
 {
     if room.len() < words::PROGRAM {
         return told::refused(Refusal::Room(words::PROGRAM as u64), value);

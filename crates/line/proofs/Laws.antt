@@ -13,12 +13,13 @@ use Rattle.lent.proofs.Laws.{test}
 use Rattle.text.specs.Text.{hexOf, numberIn, lettersOf, begins, laidOf}
 use Rattle.text.proofs.Laws.{laid-none, laid-on, hex-length, letters-length, begins-none, begins-append, begins-byte, begins-hex, both-both}
 use Rattle.word.specs.Word.{decodeOf}
+use Rattle.word.proofs.Every.{every, every-at}
 use Rattle.mnemonics.specs.declared.Kind.{Kind}
 use Rattle.mnemonics.specs.declared.Shown.{Shown}
-use Rattle.mnemonics.specs.Mnemonics.{Fair, Fits, rowOf, shownOf}
-use Rattle.mnemonics.specs.Names.{nameOf, lettersIn}
+use Rattle.mnemonics.specs.Mnemonics.{Fair, Fits, table, rowOf, shownOf}
+use Rattle.mnemonics.specs.Names.{names, nameOf, lettersIn}
 use Rattle.mnemonics.proofs.Laws.{word-fits}
-use Rattle.mnemonics.proofs.Rows.{row-letters, row-name, letters-some, kinds-fair}
+use Rattle.mnemonics.proofs.Rows.{row-letters, row-name, kinds-fair}
 use Rattle.line.specs.Line.{spacedOf, operandOf, operandIn, widthOf, operandsOf, lineOf, wordIn, goodOf}
 
 -- Lengths.
@@ -303,20 +304,27 @@ length-by w {s = s} {m = m} {u = u} {v = v} h e f g i j o q =
     let y : v ≡ widthOf (rowOf (s .row) .second) = rw (q, o) refl in
     omega (arith, operands-length s)
 
--- no line is long
-pub line-few : (a w : ℕ) → w < 65536 → length (lineOf a w) < 24
+-- THE LONGEST LINE has 21 bytes: computed over all rows.
+unfoldable few : ℕ → Bool
+few n = ltb (10 + lettersIn (nameOf n) + widthOf (rowOf n .first) + widthOf (rowOf n .second)) 22
+
+all-few : every few 6 0 ≡ true
+unfolding every few lettersIn nameOf names widthOf rowOf table
+all-few = refl
+
+pub line-few : (a w : ℕ) → w < 65536 → length (lineOf a w) < 22
+unfolding few
 line-few a w h =
     let s = shownOf (decodeOf w) in
     let f = word-fits w h in
-    let k = kinds-fair (s .row) (f .row) in
+    let z : 0 + s .row ≡ s .row = omega arith in
+    let n : few (s .row) ≡ true = rw z at (every-at few 6 0 (s .row) all-few (omega (arith, f .row))) in
     omega (
       arith,
       line-length a w,
       operands-length s,
       row-letters (s .row) (f .row),
-      letters-some (nameOf (s .row)),
-      width-few (rowOf (s .row) .first) (k .0),
-      width-few (rowOf (s .row) .second) (k .1),
+      ltb-true (10 + lettersIn (nameOf (s .row)) + widthOf (rowOf (s .row) .first) + widthOf (rowOf (s .row) .second)) 22 n,
     )
 
 -- a line is as long at any address

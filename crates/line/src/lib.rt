@@ -60,7 +60,7 @@ fn put_items(room: &mut [u8], p: usize, s: Shown) -> usize
 // The line of a word at an address, from a place on, and the place behind it.
 pub fn put(room: &mut [u8], p: usize, a: u16, w: u16) -> usize
     requires { ⌜ p ≤ 800000 ⌝ }
-    ensures { λ r. ⌜ ((r ≡ p + length (lineOf a w)) × (r < p + 24)) × (now (room .exit) ≡ laidOf (now (room .entry)) p (lineOf a w)) ⌝ }
+    ensures { λ r. ⌜ ((r ≡ p + length (lineOf a w)) × (r < p + 22)) × (now (room .exit) ≡ laidOf (now (room .entry)) p (lineOf a w)) ⌝ }
 {
     let s = mnemonics::show(w);
     put_spaced(room, p, 3, a);
@@ -81,7 +81,7 @@ fn width(k: Kind) -> usize
 
 // How many bytes a word's line has, whatever its address.
 pub fn length(w: u16) -> usize
-    ensures { λ r. ⌜ (r ≡ length (lineOf 0 w)) × (r < 24) ⌝ }
+    ensures { λ r. ⌜ (r ≡ length (lineOf 0 w)) × (r < 22) ⌝ }
 {
     let s = mnemonics::show(w);
     let letters = mnemonics::letters(mnemonics::name(s.row));

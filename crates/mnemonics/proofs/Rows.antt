@@ -76,5 +76,5 @@ kinds-fair n h =
     let t =
     both-true (fair (firstBy n)) (fair (secondBy n))
     (rw z at (every-at (λ n. both (fair (firstBy n)) (fair (secondBy n))) 6 0 n all-fair (omega arith))) in
-    let k = kinds-by n h in
+    let k = kinds-by n in
     (rw (← (k .0)) (is-fair (firstBy n) (t .0)), rw (← (k .1)) (is-fair (secondBy n) (t .1)))

@@ -119,7 +119,7 @@ Z = 90
 abbrev pub data-row : Row
 data-row = row (D ∷ A ∷ T ∷ A ∷ []) none none
 
--- THE TABLE: by code, 0-6 without and with the memory, 7, 8-15, 16-24, then the rest as section 17 has it
+-- THE TABLE, by code: 0-6 without and with the memory, 7, 8-15, 16-24, then what is listed of 25-31, and the mark DATA
 unfoldable pub table : List Row
 table =
     row (A ∷ D ∷ C ∷ []) cell none

@@ -1,6 +1,5 @@
 // The mnemonics in one table, with the kinds of their operands, and what each word shows on paper (02, P3).
 ghost use mathlib.Core.Path.{_≡_};
-ghost use Prim.Native.Nat.{_<_};
 ghost use Rattle.word.specs.Word.{decodeOf};
 ghost use Rattle.mnemonics.specs.Mnemonics.{rowOf, shownOf};
 ghost use Rattle.mnemonics.specs.Names.{nameOf, lettersIn};
@@ -18,7 +17,7 @@ pub struct Shown {
     pub second: u16,
 }
 
-// The rows, those of the mark DATA among them.
+// The rows, that of the mark DATA among them.
 const ROWS: usize = 44;
 
 // The row of the mark DATA.
@@ -72,12 +71,14 @@ const NAMES: [u64; ROWS] = [
     0x44415441, // DATA
 ];
 
-// A row's name.
+// A row's name, and 0 past the last row.
 pub fn name(row: usize) -> u64
-    requires { ⌜ row < 44 ⌝ }
     ensures { λ r. ⌜ r ≡ nameOf row ⌝ }
 {
-    NAMES[row]
+    if row < ROWS {
+        return NAMES[row];
+    }
+    0
 }
 
 // How many letters a name has.
@@ -98,7 +99,6 @@ pub fn letters(name: u64) -> usize
 
 // A row's first operand.
 pub fn first(row: usize) -> Kind
-    requires { ⌜ row < 44 ⌝ }
     ensures { λ r. ⌜ r ≡ rowOf row .first ⌝ }
 {
     if row < 16 {
@@ -145,7 +145,6 @@ pub fn first(row: usize) -> Kind
 
 // A row's second operand.
 pub fn second(row: usize) -> Kind
-    requires { ⌜ row < 44 ⌝ }
     ensures { λ r. ⌜ r ≡ rowOf row .second ⌝ }
 {
     if row / 8 == 2 {

@@ -2,21 +2,24 @@
 use mathlib.Core.Path.{_≡_, _∙_, refl, sym, ap}
 use mathlib.Core.Bool.{Bool, true, false}
 use mathlib.Core.List.{List, [], _∷_, _++_, append-nil}
-use Prim.Native.Nat.{ℕ, zero, suc, _+_, _<_, _≤_}
+use Prim.Native.Nat.{ℕ, zero, suc, _+_, _*_, _<_, _≤_}
 use native.Mathlib.Omega.{arith}
 use lib.Dec.{ltb, eqb}
-use lib.ListN.{length, take, drop, drop-of-length-le, length-take}
-use lib.Seq.{take-all}
+use lib.ListN.{length, take, drop, drop-of-length-le, length-append, length-take}
+use lib.Seq.{take-all, take-append-seam}
 use borrow.Author.Tests.{eq-eqb, eqb-true}
 use Rattle.lent.specs.Lent.{pick, both, at, over}
 use Rattle.lent.specs.Outcome.{Outcome, outcome}
-use Rattle.lent.proofs.Laws.{both-true, by-test, by-lt, never}
+use Rattle.lent.proofs.Laws.{both-true, by-test, by-lt, by-eq, never}
 use Rattle.refusal.specs.declared.Refusal.{Refusal}
 use Rattle.refusal.specs.declared.Refusal.the-variants.{Room, Listing}
 use Rattle.text.specs.Text.{begins}
 use Rattle.text.proofs.Laws.{both-of, begins-none, begins-append, begins-own, begins-split}
 use Rattle.line.specs.Line.{lineOf, wordIn, goodOf}
+use Rattle.line.proofs.Laws.{line-few}
 use Rattle.line.proofs.Exact.{line-word, line-good, good-line}
+use Rattle.paper.specs.declared.Written.{Written}
+use Rattle.paper.specs.declared.Written.the-variants as written
 use Rattle.paper.specs.declared.Taken.{Taken}
 use Rattle.paper.specs.declared.Taken.the-variants as taken
 use Rattle.paper.specs.Listing.{linesOf, listingOf, placedOf, writeOf, goodFrom, goodLines, whole, storedOf, readOf, AllWords, Begins, FirstBad, Listed}
@@ -90,6 +93,35 @@ pub read-back : (p room : List ℕ) → length p ≡ 4096 → AllWords p → rea
 unfolding readOf
 read-back p room n f = rw (whole-own p n f, lines-back p n f)
 
+apart-written : {why : Refusal} {n : ℕ} {A : Type 0} → written.Refused why ≡ written.Bytes n → A
+apart-written e = let z : _≡_ {A = ℕ} 0 1 = cc in absurd (omega arith)
+
+bytes-of : {m n : ℕ} → written.Bytes m ≡ written.Bytes n → m ≡ n
+bytes-of e = cc
+
+told : {a : Written} {o : List ℕ} {r : Outcome Written} → r ≡ outcome a o → r .answer ≡ a
+told e = ap (λ (x : Outcome Written). x .answer) e
+
+-- what the writer's call has written: so many bytes of its room are the listing
+pub written-is : (p room o : List ℕ) (n : ℕ) → writeOf p room ≡ outcome (written.Bytes n) o → (length p ≡ 4096) × (take n o ≡ listingOf p)
+unfolding writeOf placedOf over
+written-is p room o n =
+    let l = listingOf p in
+    let Says : Outcome Written → Type 0 = λ r. r ≡ outcome (written.Bytes n) o → (length p ≡ 4096) × (take n o ≡ l) in
+    by-eq Says (length p) 4096 _ _
+    (λ h. by-lt Says (length room) (length l) _ _ (λ k e. apart-written (told e))
+    (λ k e.
+    let m = bytes-of (told e) in
+    let f : l ++ drop (length l) room ≡ o = ap (λ (x : Outcome Written). x .room) e in
+    (h, rw (← m, ← f) (take-append-seam l (drop (length l) room)))))
+    (λ h e. apart-written (told e))
+
+-- and the reader's call, given them, reads the program
+pub written-back : (p room o : List ℕ) (n : ℕ) (r : List ℕ) → AllWords p → writeOf p room ≡ outcome (written.Bytes n) o → readOf (take n o) r ≡ storedOf p r
+written-back p room o n r f e =
+    let w = written-is p room o n e in
+    ap (λ (t : List ℕ). readOf t r) (w .1) ∙ read-back p r (w .0) f
+
 -- two programs with one listing are one program
 pub one-listing : (p q : List ℕ) → length p ≡ 4096 → AllWords p → length q ≡ 4096 → AllWords q → listingOf p ≡ listingOf q → p ≡ q
 one-listing p q n f m g e = sym (lines-back p n f) ∙ (ap goodLines e ∙ lines-back q m g)
@@ -140,6 +172,7 @@ written-again t room e =
 pub first-bad : (t : List ℕ) → FirstBad t (length (goodLines t))
 unfolding goodLines listingOf
 first-bad t = record {
+  within = good-few 4096 0 t;
   good = record { words = goodFrom 4096 0 t; many = refl; sized = good-sized 4096 0 t; there = good-front 4096 0 t };
   most = λ m h b.
       let p = b .words in
@@ -148,8 +181,8 @@ first-bad t = record {
 }
 
 -- a text has one first bad line
-pub first-bad-one : (t : List ℕ) (m n : ℕ) → m ≤ 4096 → n ≤ 4096 → FirstBad t m → FirstBad t n → m ≡ n
-first-bad-one t m n h k x y = omega (arith, x .most n k (y .good), y .most m h (x .good))
+pub first-bad-one : (t : List ℕ) (m n : ℕ) → FirstBad t m → FirstBad t n → m ≡ n
+first-bad-one t m n x y = omega (arith, x .most n (y .within) (y .good), y .most m (x .within) (x .good))
 
 reason-of : {v w : Refusal} → taken.Refused v ≡ taken.Refused w → v ≡ w
 reason-of e = cc
@@ -173,3 +206,15 @@ refused-line t room o n =
     (λ a e.
     let m = line-of (reason-of (answers e)) in
     (((λ p l. never (sym a ∙ listed-whole t p l)), rw (← m) (first-bad t)), sym (ap (λ (x : Outcome Taken). x .room) e)))
+
+-- HOW LONG a listing can be: 21 bytes for each line.
+
+lines-fit : (a : ℕ) (p : List ℕ) → AllWords p → length (linesOf a p) ≤ 21 * length p
+unfolding linesOf
+lines-fit a [] f = omega arith
+lines-fit a (w ∷ p) f =
+    omega (arith, length-append (lineOf a w) (linesOf (a + 1) p), line-few a w (f 0), lines-fit (a + 1) p (one-less w p f))
+
+pub listing-fits : (p : List ℕ) → length p ≡ 4096 → AllWords p → length (listingOf p) ≤ 86016
+unfolding listingOf
+listing-fits p n f = omega (arith, lines-fit 0 p f)

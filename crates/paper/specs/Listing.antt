@@ -86,6 +86,7 @@ pub record Begins (t : List ℕ) (n : ℕ) : Type 0 where
 
 -- n is the first bad line: the text begins with n good lines, and with no more than n of the 4,096
 pub record FirstBad (t : List ℕ) (n : ℕ) : Type 0 where
+  pub within : n ≤ 4096
   pub good : Begins t n
   pub most : (m : ℕ) → m ≤ 4096 → Begins t m → m ≤ n
 

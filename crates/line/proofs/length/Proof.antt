@@ -29,13 +29,13 @@ show-requires : tie.Need-show-requires
 show-requires c κs = search needs
 
 name-requires : tie.Need-name-requires
-name-requires c κs = fits c .row
+name-requires c κs = search needs
 
 letters-requires : tie.Need-letters-requires
 letters-requires c κs = search needs
 
 first-requires : tie.Need-first-requires
-first-requires c κs = fits (c .before .before) .row
+first-requires c κs = search needs
 
 width-requires : tie.Need-width-requires
 width-requires c κs =
@@ -43,7 +43,7 @@ width-requires c κs =
     fair-first _ (fits h) (c .first .ensures)
 
 second-requires : tie.Need-second-requires
-second-requires c κs = fits (c .before .before .before .before) .row
+second-requires c κs = search needs
 
 width-requires-2 : tie.Need-width-requires-2
 width-requires-2 c κs =

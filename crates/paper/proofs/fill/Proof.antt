@@ -13,7 +13,7 @@ use Rattle.paper.proofs.fill.Tie as tie
 
 abbrev Inv-loop : tie.InvT-loop
 Inv-loop program room₀ p₀ a₀ room p a =
-    (a ≤ length program) × (p ≤ a * 24) × (length room ≡ length room₀)
+    (a ≤ length program) × (p ≤ a * 21) × (length room ≡ length room₀)
     × (laidOf room p (linesOf a (drop a program)) ≡ laidOf room₀ 0 (listingOf program))
 
 abbrev μ-loop : tie.MeasureT-loop

@@ -14,7 +14,7 @@ use Rattle.paper.proofs.good_lines.Tie as tie
 
 abbrev Inv-loop : tie.InvT-loop
 Inv-loop text words₀ p₀ a₀ words p a =
-    (a ≤ 4096) × (p ≤ a * 24) × (length words ≡ length words₀)
+    (a ≤ 4096) × (p ≤ a * 21) × (length words ≡ length words₀)
     × (a + length (goodFrom (4096 - a) a (drop p text)) ≡ length (goodLines text))
     × (p + length (linesOf a (goodFrom (4096 - a) a (drop p text))) ≡ length (listingOf (goodLines text)))
     × (laidOf words a (goodFrom (4096 - a) a (drop p text)) ≡ laidOf words₀ 0 (goodLines text))

@@ -10,7 +10,7 @@ use Rattle.paper.proofs.size.Statement.{statement}
 use Rattle.paper.proofs.size.Tie as tie
 
 abbrev Inv-loop : tie.InvT-loop
-Inv-loop program n₀ a₀ n a = (a ≤ length program) × (n ≤ a * 24) × (n + length (linesOf a (drop a program)) ≡ length (listingOf program))
+Inv-loop program n₀ a₀ n a = (a ≤ length program) × (n ≤ a * 21) × (n + length (linesOf a (drop a program)) ≡ length (listingOf program))
 
 abbrev μ-loop : tie.MeasureT-loop
 μ-loop program n₀ a₀ n a = length program - a
