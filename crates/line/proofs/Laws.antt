@@ -9,7 +9,7 @@ use lib.ListN.{length, drop, set, length-append}
 use lib.Seq.{drop-drop, getD-drop}
 use borrow.Author.Tests.{eq-eqb, ne-eqb, lt-ltb, le-ltb, eqb-true, eqb-false, ltb-true, ltb-false}
 use Rattle.lent.specs.Lent.{pick, both, at}
-use Rattle.lent.proofs.Laws.{test}
+use Rattle.lent.proofs.Laws.{test, both-true}
 use Rattle.text.specs.Text.{hexOf, numberIn, lettersOf, begins, laidOf}
 use Rattle.text.proofs.Laws.{laid-none, laid-on, hex-length, letters-length, begins-none, begins-append, begins-byte, begins-hex, both-both}
 use Rattle.word.specs.Word.{decodeOf}
@@ -20,7 +20,7 @@ use Rattle.mnemonics.specs.Mnemonics.{Fair, Fits, table, rowOf, shownOf}
 use Rattle.mnemonics.specs.Names.{names, nameOf, lettersIn}
 use Rattle.mnemonics.proofs.Laws.{word-fits}
 use Rattle.mnemonics.proofs.Rows.{row-letters, row-name, kinds-fair}
-use Rattle.line.specs.Line.{spacedOf, operandOf, operandIn, widthOf, operandsOf, lineOf, wordIn, goodOf}
+use Rattle.line.specs.Line.{spacedOf, operandOf, operandIn, widthOf, operandsOf, lineOf, wordIn, goodOf, lineIn}
 
 -- Lengths.
 
@@ -270,62 +270,71 @@ module _ (s : Shown) (t : List ℕ) (p : ℕ) {n m : ℕ} {b : Bool} (f : Fits s
   pub items-off : b ≡ false → false ≡ begins (rowOf (s .row) .name ++ operandsOf s) (drop p t)
   items-off o = sym (items-parts ∙ rw o)
 
-module _ (a w : ℕ) (t : List ℕ) (p : ℕ) {x y b : Bool} (e : x ≡ begins (spacedOf 3 a) (drop p t)) (f : y ≡ begins (spacedOf 4 w) (drop (p + 4) t)) (g : b ≡ both x y) where
+module _ (a w : ℕ) (t : List ℕ) (p : ℕ) (h : w < 65536) (o : w ≡ wordIn (drop p t)) {c : ℕ} {x b : Bool} (d : c ≡ at t (p + 8)) (e : x ≡ begins (spacedOf 3 a) (drop p t)) (g : b ≡ both x (eqb c 32)) where
+  -- the word stands there; what is left to be looked at is the space behind it
+  spaced-word : begins (spacedOf 4 w) (drop 4 (drop p t)) ≡ eqb c 32
+  unfolding wordIn
+  spaced-word =
+      let n : eqb (numberIn 4 (drop 4 (drop p t))) w ≡ true = eq-eqb (numberIn 4 (drop 4 (drop p t))) w (sym o) in
+      let s : at (drop 4 (drop p t)) 4 ≡ c = getD-drop 4 (drop p t) 4 0 ∙ (getD-drop p t 8 0 ∙ sym d) in
+      begins-spaced 4 w (drop 4 (drop p t)) h h ∙ rw (n, s)
+
   line-parts : begins (lineOf a w) (drop p t) ≡ both b (begins (rowOf (shownOf (decodeOf w) .row) .name ++ operandsOf (shownOf (decodeOf w))) (drop (p + 9) t))
-  line-parts = begins-line a w (drop p t) ∙ rw (drop-drop 4 p t, drop-drop 9 p t, ← e, ← f, ← g)
+  line-parts = begins-line a w (drop p t) ∙ rw (spaced-word, drop-drop 9 p t, ← e, ← g)
 
   pub line-on : {s : Shown} {r : Bool} → b ≡ true → s ≡ shownOf (decodeOf w) → r ≡ begins (rowOf (s .row) .name ++ operandsOf s) (drop (p + 9) t) → r ≡ begins (lineOf a w) (drop p t)
-  line-on o i q = q ∙ (ap (λ (s : Shown). begins (rowOf (s .row) .name ++ operandsOf s) (drop (p + 9) t)) i ∙ sym (line-parts ∙ rw o))
+  line-on u i q = q ∙ (ap (λ (s : Shown). begins (rowOf (s .row) .name ++ operandsOf s) (drop (p + 9) t)) i ∙ sym (line-parts ∙ rw u))
 
   pub line-off : b ≡ false → false ≡ begins (lineOf a w) (drop p t)
-  line-off o = sym (line-parts ∙ rw o)
+  line-off u = sym (line-parts ∙ rw u)
 
 pub word-read : (t : List ℕ) (p : ℕ) {w : ℕ} → w ≡ numberIn 4 (drop (p + 4) t) → w ≡ wordIn (drop p t)
 unfolding wordIn
 word-read t p e = e ∙ sym (ap (numberIn 4) (drop-drop 4 p t))
 
 module _ (a : ℕ) (t : List ℕ) (p : ℕ) {w : ℕ} (e : w ≡ wordIn (drop p t)) where
-  pub good-on : {r : Bool} → w < 65536 → r ≡ begins (lineOf a w) (drop p t) → r ≡ goodOf a (drop p t)
-  unfolding goodOf
-  good-on h q = rw (← e, lt-ltb w 65536 h) q
+  pub no-word : 65536 ≤ w → 0x10000 ≡ lineIn a (drop p t)
+  unfolding lineIn goodOf
+  no-word h = rw (← e, le-ltb w 65536 h)
 
-  pub good-off : 65536 ≤ w → false ≡ goodOf a (drop p t)
-  unfolding goodOf
-  good-off h = rw (← e, le-ltb w 65536 h)
+  module _ (h : w < 65536) {b : Bool} (f : b ≡ begins (lineOf a w) (drop p t)) where
+    pub good-word : b ≡ true → w ≡ lineIn a (drop p t)
+    unfolding lineIn goodOf
+    good-word t = rw (← e, lt-ltb w 65536 h, ← f, t)
 
--- a line's length from its parts'
-pub length-by : (w : ℕ) {s : Shown} {n m u v : ℕ} {k l : Kind} →
-    w < 65536 → s ≡ shownOf (decodeOf w) → n ≡ nameOf (s .row) → m ≡ lettersIn n → k ≡ rowOf (s .row) .first → u ≡ widthOf k → l ≡ rowOf (s .row) .second → v ≡ widthOf l →
-    10 + m + u + v ≡ length (lineOf 0 w)
-length-by w {s = s} {m = m} {u = u} {v = v} h e f g i j o q =
-    let t : length (lineOf 0 w) ≡ 9 + length (rowOf (s .row) .name) + length (operandsOf s) = rw e (line-length 0 w) in
-    let a : m ≡ length (rowOf (s .row) .name) = rw (g, f) (row-letters (s .row) (shown-fits w h e .row)) in
-    let x : u ≡ widthOf (rowOf (s .row) .first) = rw (j, i) refl in
-    let y : v ≡ widthOf (rowOf (s .row) .second) = rw (q, o) refl in
-    omega (arith, operands-length s)
+    pub bad-line : b ≡ false → 0x10000 ≡ lineIn a (drop p t)
+    unfolding lineIn goodOf
+    bad-line t = rw (← e, lt-ltb w 65536 h, ← f, t)
 
--- THE LONGEST LINE has 21 bytes: computed over all rows.
-unfoldable few : ℕ → Bool
-few n = ltb (10 + lettersIn (nameOf n) + widthOf (rowOf n .first) + widthOf (rowOf n .second)) 22
+-- THE LENGTHS of lines, by their rows: computed over all rows. The longest line has 21 bytes.
+unfoldable pub lengths : List ℕ
+lengths =
+    17 ∷ 18 ∷ 17 ∷ 18 ∷ 17 ∷ 18 ∷ 17 ∷ 18 ∷ 17 ∷ 18 ∷ 16 ∷ 17 ∷ 17 ∷ 18 ∷ 17 ∷ 17 ∷ 19 ∷ 20 ∷ 19 ∷ 20 ∷ 21 ∷ 20 ∷ 21 ∷ 19 ∷ 17 ∷ 17 ∷ 17 ∷ 16 ∷ 17 ∷ 17 ∷ 17 ∷ 17 ∷ 18 ∷ 17 ∷ 17 ∷ 18 ∷ 14 ∷ 14 ∷ 14 ∷ 17 ∷ 13 ∷ 14 ∷ 13 ∷ 14 ∷ []
 
-all-few : every few 6 0 ≡ true
-unfolding every few lettersIn nameOf names widthOf rowOf table
-all-few = refl
+unfoldable sized : ℕ → Bool
+sized n =
+    pick (ltb n 44)
+    (both (eqb (at lengths n) (10 + lettersIn (nameOf n) + widthOf (rowOf n .first) + widthOf (rowOf n .second))) (ltb (at lengths n) 22))
+    true
+
+all-sized : every sized 6 0 ≡ true
+unfolding every sized lengths lettersIn nameOf names widthOf rowOf table
+all-sized = refl
+
+pub length-by : (a w : ℕ) {n : ℕ} → w < 65536 → n ≡ shownOf (decodeOf w) .row → (at lengths n ≡ length (lineOf a w)) × (at lengths n < 22)
+unfolding sized
+length-by a w h e =
+    let s = shownOf (decodeOf w) in
+    let m = s .row in
+    let f = word-fits w h in
+    let z : 0 + m ≡ m = omega arith in
+    let u : sized m ≡ true = rw z at (every-at sized 6 0 m all-sized (omega (arith, f .row))) in
+    let v = both-true (eqb (at lengths m) (10 + lettersIn (nameOf m) + widthOf (rowOf m .first) + widthOf (rowOf m .second))) (ltb (at lengths m) 22) (rw (lt-ltb m 44 (f .row)) at u) in
+    let x = eqb-true (at lengths m) (10 + lettersIn (nameOf m) + widthOf (rowOf m .first) + widthOf (rowOf m .second)) (v .0) in
+    rw e (omega (arith, x, line-length a w, operands-length s, row-letters m (f .row)), ltb-true (at lengths m) 22 (v .1))
 
 pub line-few : (a w : ℕ) → w < 65536 → length (lineOf a w) < 22
-unfolding few
-line-few a w h =
-    let s = shownOf (decodeOf w) in
-    let f = word-fits w h in
-    let z : 0 + s .row ≡ s .row = omega arith in
-    let n : few (s .row) ≡ true = rw z at (every-at few 6 0 (s .row) all-few (omega (arith, f .row))) in
-    omega (
-      arith,
-      line-length a w,
-      operands-length s,
-      row-letters (s .row) (f .row),
-      ltb-true (10 + lettersIn (nameOf (s .row)) + widthOf (rowOf (s .row) .first) + widthOf (rowOf (s .row) .second)) 22 n,
-    )
+line-few a w h = let l = length-by a w h refl in omega (arith, l .0, l .1)
 
 -- a line is as long at any address
 pub line-same : (a w : ℕ) → length (lineOf a w) ≡ length (lineOf 0 w)

@@ -55,3 +55,7 @@ wordIn t = numberIn 4 (drop 4 t)
 -- A GOOD LINE for an address: its four digits say a word, and it is what is written for that word
 unfoldable pub goodOf : ℕ → List ℕ → Bool
 goodOf a t = both (ltb (wordIn t) 65536) (begins (lineOf a (wordIn t)) t)
+
+-- the word of a line that is good for an address; else more than any word
+unfoldable pub lineIn : ℕ → List ℕ → ℕ
+lineIn a t = pick (goodOf a t) (wordIn t) 0x10000

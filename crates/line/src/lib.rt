@@ -7,11 +7,59 @@ ghost use Prim.Native.Nat.{_+_, _≤_, _<_, _^_};
 ghost use lib.ListN.{length, drop};
 ghost use Rattle.text.specs.Text.{begins, laidOf};
 ghost use Rattle.mnemonics.specs.Mnemonics.{rowOf, Fair, Fits};
-ghost use Rattle.line.specs.Line.{spacedOf, operandOf, operandIn, widthOf, operandsOf, lineOf, wordIn, goodOf};
+ghost use Rattle.line.specs.Line.{spacedOf, operandOf, operandIn, widthOf, operandsOf, lineOf, wordIn, lineIn};
 
 const SPACE: u8 = 32;
 
 const LINE_FEED: u8 = 10;
+
+// How many bytes the line of each row has.
+const LENGTHS: [usize; 44] = [
+    17, // ADC
+    18, // ADCM
+    17, // ADD
+    18, // ADDM
+    17, // SBC
+    18, // SBCM
+    17, // SUB
+    18, // SUBM
+    17, // EOR
+    18, // EORM
+    16, // OR
+    17, // ORM
+    17, // AND
+    18, // ANDM
+    17, // LDA
+    17, // STA
+    19, // ADI
+    20, // ADIM
+    19, // SBI
+    20, // SBIM
+    21, // EORIM
+    20, // ORIM
+    21, // ANDIM
+    19, // LDI
+    17, // BNZ
+    17, // BNC
+    17, // BAZ
+    16, // BC
+    17, // BA0
+    17, // BA1
+    17, // BA2
+    17, // BA3
+    18, // CALL
+    17, // DAA
+    17, // DAS
+    18, // RTNW
+    14, // RTNI
+    14, // HALT
+    14, // STOP
+    17, // JMP
+    13, // SHR
+    14, // TJMP
+    13, // NOP
+    14, // DATA
+];
 
 // A number and a space.
 fn put_spaced(room: &mut [u8], p: usize, digits: usize, v: u16)
@@ -83,11 +131,8 @@ fn width(k: Kind) -> usize
 pub fn length(w: u16) -> usize
     ensures { λ r. ⌜ (r ≡ length (lineOf 0 w)) × (r < 22) ⌝ }
 {
-    let s = mnemonics::show(w);
-    let letters = mnemonics::letters(mnemonics::name(s.row));
-    let first = width(mnemonics::first(s.row));
-    let second = width(mnemonics::second(s.row));
-    10 + letters + first + second
+    let row = mnemonics::row_of(w);
+    LENGTHS[row]
 }
 
 // Whether a number and a space stand at a place.
@@ -149,33 +194,29 @@ fn items(text: &[u8], p: usize, s: Shown) -> bool
     false
 }
 
-// Whether a word's line for an address stands at a place.
+// Whether a word's line for an address stands at a place, where the word does.
 fn is_line(text: &[u8], p: usize, a: u16, w: u16) -> bool
-    requires { ⌜ (p ≤ 800000) × (a < 4096) ⌝ }
+    requires { ⌜ (p ≤ 800000) × ((a < 4096) × (w ≡ wordIn (drop p (now text)))) ⌝ }
     ensures { λ r. ⌜ r ≡ begins (lineOf a w) (drop p (now (text .entry))) ⌝ }
 {
-    if lent::both(spaced(text, p, 3, a), spaced(text, p + 4, 4, w)) {
+    let c = lent::peek(text, p + 8);
+    if lent::both(spaced(text, p, 3, a), c == SPACE) {
         return items(text, p + 9, mnemonics::show(w));
     }
     false
 }
 
-// The word that the line at a place says, and more than any word where it says none.
-pub fn word(text: &[u8], p: usize) -> u32
-    requires { ⌜ p ≤ 800000 ⌝ }
-    ensures { λ r. ⌜ r ≡ wordIn (drop p (now (text .entry))) ⌝ }
-{
-    text::number(text, p + 4, 4)
-}
-
-// Whether the line at a place is good for an address.
-pub fn good(text: &[u8], p: usize, a: u16) -> bool
+// The word of the line at a place, where it is good for an address; else more than any word.
+pub fn read(text: &[u8], p: usize, a: u16) -> u32
     requires { ⌜ (p ≤ 800000) × (a < 4096) ⌝ }
-    ensures { λ r. ⌜ r ≡ goodOf a (drop p (now (text .entry))) ⌝ }
+    ensures { λ r. ⌜ r ≡ lineIn a (drop p (now (text .entry))) ⌝ }
 {
-    let w = word(text, p);
-    if w < 0x10000 {
-        return is_line(text, p, a, w as u16);
+    let w = text::number(text, p + 4, 4);
+    if 0xFFFF < w {
+        return 0x10000;
     }
-    false
+    if is_line(text, p, a, w as u16) {
+        return w;
+    }
+    0x10000
 }

@@ -166,7 +166,7 @@ pub fn second(row: usize) -> Kind
 }
 
 // The row that a word shows.
-fn row_of(word: u16) -> usize
+pub fn row_of(word: u16) -> usize
     ensures { λ r. ⌜ r ≡ shownOf (decodeOf word) .row ⌝ }
 {
     if word < 0x4000 {

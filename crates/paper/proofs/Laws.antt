@@ -1,6 +1,6 @@
 -- A listing as loops write and read it: what is done, and what is still to be done.
 use mathlib.Core.Path.{_≡_, _∙_, refl, sym, ap}
-use mathlib.Core.Bool.{Bool, true, false, not}
+use mathlib.Core.Bool.{true, false}
 use mathlib.Core.List.{List, [], _∷_, _++_, append-nil}
 use Prim.Native.Nat.{ℕ, zero, suc, _+_, _-_, _<_, _≤_}
 use native.Mathlib.Omega.{arith}
@@ -8,15 +8,16 @@ use native.Mathlib.Numerals.{add-one}
 use lib.Dec.{ltb, eqb}
 use lib.ListN.{length, drop, set, replicate, drop-of-length-le, length-append, length-replicate}
 use lib.Seq.{drop-drop}
-use borrow.Author.Tests.{lt-ltb, le-ltb, eq-eqb, ne-eqb, ltb-true, not-true, not-false}
+use borrow.Author.Tests.{lt-ltb, le-ltb, eq-eqb, ne-eqb}
 use Rattle.lent.specs.Lent.{pick, both, at, over}
 use Rattle.lent.specs.Outcome.{outcome}
-use Rattle.lent.proofs.Laws.{drop-more, both-true, by-test}
+use Rattle.lent.proofs.Laws.{drop-more}
 use Rattle.refusal.specs.declared.Refusal.the-variants.{ProgramLength, Room, Listing}
-use Rattle.text.specs.Text.{begins, laidOf}
+use Rattle.text.specs.Text.{laidOf}
 use Rattle.text.proofs.Laws.{laid-none, laid-on, laid-front}
-use Rattle.line.specs.Line.{lineOf, wordIn, goodOf}
+use Rattle.line.specs.Line.{lineOf, wordIn, goodOf, lineIn}
 use Rattle.line.proofs.Laws.{line-same}
+use Rattle.line.proofs.Exact.{read-good, read-bad}
 use Rattle.paper.specs.declared.Written.the-variants as written
 use Rattle.paper.specs.declared.Taken.the-variants as taken
 use Rattle.paper.specs.Listing.{linesOf, listingOf, placedOf, writeOf, goodFrom, goodLines, whole, storedOf, readOf}
@@ -70,25 +71,26 @@ module _ (a : ℕ) (t : List ℕ) where
   unfolding goodFrom
   good-end h = let z : 4096 - a ≡ 0 = omega arith in rw z
 
-  module _ (h : a < 4096) {g : Bool} (e : g ≡ goodOf a t) where
-    pub good-stop : not g ≡ true → goodFrom (4096 - a) a t ≡ []
+  module _ (h : a < 4096) where
+    good-stop : goodOf a t ≡ false → goodFrom (4096 - a) a t ≡ []
     unfolding goodFrom
-    good-stop n = let z : 4096 - a ≡ suc (4096 - (a + 1)) = omega arith in rw (z, ← e, not-true g n)
+    good-stop e = let z : 4096 - a ≡ suc (4096 - (a + 1)) = omega arith in rw (z, e)
 
-    good-more : not g ≡ false → goodFrom (4096 - a) a t ≡ wordIn t ∷ goodFrom (4096 - (a + 1)) (a + 1) (drop (length (lineOf a (wordIn t))) t)
+    good-more : goodOf a t ≡ true → goodFrom (4096 - a) a t ≡ wordIn t ∷ goodFrom (4096 - (a + 1)) (a + 1) (drop (length (lineOf a (wordIn t))) t)
     unfolding goodFrom
-    good-more n = let z : 4096 - a ≡ suc (4096 - (a + 1)) = omega arith in rw (z, ← e, not-false g n)
+    good-more e = let z : 4096 - a ≡ suc (4096 - (a + 1)) = omega arith in rw (z, e)
 
-    pub good-word : {w : ℕ} → not g ≡ false → w ≡ wordIn t → w < 65536
-    unfolding goodOf
-    good-word n f = rw f (ltb-true (wordIn t) 65536 (both-true (ltb (wordIn t) 65536) (begins (lineOf a (wordIn t)) t) (sym e ∙ not-false g n) .0))
+module _ (t : List ℕ) (a p : ℕ) (h : a < 4096) {w : ℕ} (e : w ≡ lineIn a (drop p t)) where
+  -- no good line more
+  pub good-off : 65535 < w → goodFrom (4096 - a) a (drop p t) ≡ []
+  good-off n = good-stop a (drop p t) h (read-bad a (drop p t) e n)
 
-module _ (t : List ℕ) (a p : ℕ) (h : a < 4096) {g : Bool} (e : g ≡ goodOf a (drop p t)) (n : not g ≡ false) {w m : ℕ} (f : w ≡ wordIn (drop p t)) (k : m ≡ length (lineOf 0 w)) where
   -- one good line more
-  pub good-on : goodFrom (4096 - a) a (drop p t) ≡ w ∷ goodFrom (4096 - (a + 1)) (a + 1) (drop (p + m) t)
-  good-on =
+  pub good-on : (m : ℕ) → w ≤ 65535 → m ≡ length (lineOf 0 w) → goodFrom (4096 - a) a (drop p t) ≡ w ∷ goodFrom (4096 - (a + 1)) (a + 1) (drop (p + m) t)
+  good-on m n k =
+      let g = read-good a (drop p t) e (omega arith) in
       let z : length (lineOf a w) ≡ m = line-same a w ∙ sym k in
-      good-more a (drop p t) h e n ∙ rw (← f, z, drop-drop m p t)
+      good-more a (drop p t) h (g .0) ∙ rw (← (g .1), z, drop-drop m p t)
 
 -- the lines of one word more
 pub lines-on : (a w : ℕ) (p : List ℕ) → length (linesOf a (w ∷ p)) ≡ length (lineOf 0 w) + length (linesOf (a + 1) p)

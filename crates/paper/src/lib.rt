@@ -76,12 +76,13 @@ fn good_lines(text: &[u8], words: &mut [u16]) -> Front
     let mut p: usize = 0;
     let mut a: usize = 0;
     while a < words.len() {
-        if !line::good(text, p, a as u16) {
+        let w = line::read(text, p, a as u16);
+        if 0xFFFF < w {
             return Front { lines: a, end: p };
         }
-        let w = line::word(text, p) as u16;
-        words[a] = w;
-        p += line::length(w);
+        let v = w as u16;
+        words[a] = v;
+        p += line::length(v);
         a += 1;
     }
     Front { lines: a, end: p }

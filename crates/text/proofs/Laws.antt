@@ -166,6 +166,36 @@ value-sizes c =
 pub value-small : (c : ℕ) → valueOf c ≤ 0x10000
 value-small c = ⊎-elim (λ h. omega arith) (λ h. omega arith) (value-sizes c)
 
+-- The tests that find a digit's number.
+
+pub value-low : (c : ℕ) → c < 48 → 0x10000 ≡ valueOf c
+unfolding valueOf
+value-low c h = rw (lt-ltb c 48 h)
+
+pub value-high : (c : ℕ) → 70 < c → 0x10000 ≡ valueOf c
+unfolding valueOf
+value-high c h = rw (le-ltb c 48 (omega arith), le-ltb c 58 (omega arith), le-ltb c 65 (omega arith), le-ltb c 71 (omega arith))
+
+module _ (c : ℕ) (g : 48 ≤ c) (h : c ≤ 70) {b : Bool} (e : b ≡ both (ltb 57 c) (ltb c 65)) where
+  pub value-between : b ≡ true → 0x10000 ≡ valueOf c
+  unfolding valueOf
+  value-between t =
+      let k = both-true (ltb 57 c) (ltb c 65) (sym e ∙ t) in
+      let m = ltb-true 57 c (k .0) in
+      rw (le-ltb c 48 g, le-ltb c 58 (omega arith), k .1)
+
+  -- the low four bits, and 9 more for a letter
+  pub value-found : b ≡ false → c % 16 + c / 64 * 9 ≡ valueOf c
+  unfolding valueOf
+  value-found t =
+      test (ltb c 58)
+      (λ k. let l = ltb-true c 58 k in rw (le-ltb c 48 g, k) (omega arith))
+      (λ k.
+      let l = ltb-false c 58 k in
+      test (ltb c 65)
+      (λ m. never (sym (sym e ∙ t) ∙ both-of (ltb 57 c) (ltb c 65) (lt-ltb 57 c (omega arith)) m))
+      (λ m. let n = ltb-false c 65 m in rw (le-ltb c 48 g, k, m, lt-ltb c 71 (omega arith)) (omega arith)))
+
 digit-some : (y : ℕ) → 0 < digitOf y
 unfolding digitOf
 digit-some y = by-lt (λ (n : ℕ). 0 < n) y 10 (48 + y) (55 + y) (λ k. omega arith) (λ k. omega arith)

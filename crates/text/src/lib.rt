@@ -22,16 +22,13 @@ fn value(byte: u8) -> u32
     if byte < 48 {
         return 0x10000;
     }
-    if byte < 58 {
-        return byte as u32 - 48;
-    }
-    if byte < 65 {
+    if 70 < byte {
         return 0x10000;
     }
-    if byte < 71 {
-        return byte as u32 - 55;
+    if lent::both(57 < byte, byte < 65) {
+        return 0x10000;
     }
-    0x10000
+    byte as u32 % 16 + byte as u32 / 64 * 9
 }
 
 // A number in so many digits, from a place on.

@@ -5,14 +5,14 @@ use borrow.Author.Needs.{needs}
 use Rattle.line.proofs.is_line.Statement.{statement}
 use Rattle.line.proofs.is_line.Tie as tie
 
+add-peek : tie.Need-add-peek
+add-peek c = search needs
+
+peek-requires : tie.Need-peek-requires
+peek-requires c κs = search needs
+
 spaced-requires : tie.Need-spaced-requires
 spaced-requires c κs = search needs
-
-add-spaced : tie.Need-add-spaced
-add-spaced c = search needs
-
-spaced-requires-2 : tie.Need-spaced-requires-2
-spaced-requires-2 c κs = search needs
 
 both-requires : tie.Need-both-requires
 both-requires c κs = search needs
@@ -32,24 +32,28 @@ returns : tie.Need-returns
 returns c =
     let h = c .before in
     let b = h .before .before in
-    let y = b .before in
-    let a = y .before .before .before .args in
-    line-on (a .a) (a .w) (a .text .now) (a .p) (y .before .spaced .ensures) (y .spaced2 .ensures) (b .both .ensures) (h .before .if1 .taken) (h .show .ensures) (c .items .ensures)
+    let x = b .before in
+    let k = x .before in
+    let s = k .before .before in
+    let a = s .args in
+    line-on (a .a) (a .w) (a .text .now) (a .p) (s .fits .w .fits) (s .pre .1 .1) (k .peek .ensures) (x .spaced .ensures) (b .both .ensures) (h .before .if1 .taken) (h .show .ensures) (c .items .ensures)
 
 returns-2 : tie.Need-returns-2
 returns-2 c =
     let b = c .before in
-    let y = b .before in
-    let a = y .before .before .before .args in
-    line-off (a .a) (a .w) (a .text .now) (a .p) (y .before .spaced .ensures) (y .spaced2 .ensures) (b .both .ensures) (c .if1 .left)
+    let x = b .before in
+    let k = x .before in
+    let s = k .before .before in
+    let a = s .args in
+    line-off (a .a) (a .w) (a .text .now) (a .p) (s .fits .w .fits) (s .pre .1 .1) (k .peek .ensures) (x .spaced .ensures) (b .both .ensures) (c .if1 .left)
 
 pub is-line-spec : {M : Type 1} → statement M
 is-line-spec =
     tie.close
     (tie.spec
+    add-peek
+    peek-requires
     spaced-requires
-    add-spaced
-    spaced-requires-2
     both-requires
     add-items
     show-requires

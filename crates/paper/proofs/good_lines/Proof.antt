@@ -8,7 +8,7 @@ use lib.ListN.{length, drop, length-set}
 use Rattle.text.specs.Text.{laidOf}
 use Rattle.text.proofs.Laws.{laid-none}
 use Rattle.paper.specs.Listing.{linesOf, listingOf, goodFrom, goodLines}
-use Rattle.paper.proofs.Laws.{laid-first, good-end, good-stop, good-word, good-on, lines-on}
+use Rattle.paper.proofs.Laws.{laid-first, good-end, good-off, good-on, lines-on}
 use Rattle.paper.proofs.good_lines.Statement.{statement}
 use Rattle.paper.proofs.good_lines.Tie as tie
 
@@ -33,11 +33,11 @@ loop-holds : tie.Need-loop-holds Inv-loop μ-loop
 unfolding listingOf goodLines
 loop-holds c = (omega arith, omega arith, refl, omega arith, omega arith, refl)
 
-cast-good : tie.Need-cast-good Inv-loop μ-loop
-cast-good c = omega (arith, c .before .loop .inv .0)
+cast-read : tie.Need-cast-read Inv-loop μ-loop
+cast-read c = omega (arith, c .before .loop .inv .0)
 
-good-requires : tie.Need-good-requires Inv-loop μ-loop
-good-requires c κs =
+read-requires : tie.Need-read-requires Inv-loop μ-loop
+read-requires c κs =
     let l = c .before .loop in
     let a = c .before .before .before .before in
     (omega (arith, l .inv .1, l .inv .0), omega (arith, l .inv .2, a .pre))
@@ -49,19 +49,11 @@ returns : tie.Need-returns Inv-loop μ-loop
 returns c =
     let l = c .before .before .before .loop in
     let s = c .before .before .before .before .before .before in
-    let g = good-stop (l .a) (drop (l .p) (s .args .text .now)) (omega (arith, l .inv .2, s .pre)) (c .before .good2 .ensures) (c .if1 .taken) in
+    let g = good-off (s .args .text .now) (l .a) (l .p) (omega (arith, l .inv .2, s .pre)) (c .before .read .ensures) (c .if1 .taken) in
     ended (l .a) (l .p) (l .words) g (l .inv .3) (l .inv .4) (l .inv .5)
 
-word-requires : tie.Need-word-requires Inv-loop μ-loop
-word-requires c κs =
-    let l = c .before .before .before .loop in
-    omega (arith, l .inv .1, l .inv .0)
-
-cast-w : tie.Need-cast-w Inv-loop μ-loop
-cast-w c =
-    let l = c .before .before .before .before .loop in
-    let s = c .before .before .before .before .before .before .before in
-    omega (arith, good-word (l .a) (drop (l .p) (s .args .text .now)) (omega (arith, l .inv .2, s .pre)) (c .before .before .good2 .ensures) (c .before .if1 .left) (c .word .ensures))
+cast-v : tie.Need-cast-v Inv-loop μ-loop
+cast-v c = omega (arith, c .if1 .left)
 
 mul-words : tie.Need-mul-words Inv-loop μ-loop
 mul-words c = omega arith
@@ -74,7 +66,7 @@ length-requires c κs = search needs
 
 add-p : tie.Need-add-p Inv-loop μ-loop
 add-p c =
-    let l = c .before .before .before .before .before .loop in
+    let l = c .before .before .before .before .loop in
     omega (arith, l .inv .1, l .inv .0, c .length .ensures .1)
 
 add-a : tie.Need-add-a Inv-loop μ-loop
@@ -85,16 +77,18 @@ loop-less c = omega arith
 
 loop-again : tie.Need-loop-again Inv-loop μ-loop
 loop-again c =
-    let w = c .before in
-    let l = w .before .before .before .before .loop in
-    let s = w .before .before .before .before .before .before .before in
-    let g = good-on (s .args .text .now) (l .a) (l .p) (omega (arith, l .inv .2, s .pre)) (w .before .before .good2 .ensures) (w .before .if1 .left) (w .word .ensures) (c .length .ensures .0) in
-    let r = goodFrom (4096 - (l .a + 1)) (l .a + 1) (drop (l .p + c .length .result) (s .args .text .now)) in (
+    let e = c .before in
+    let w = e .before in
+    let l = w .before .before .loop in
+    let s = w .before .before .before .before .before in
+    let m = c .length .result in
+    let g = good-on (s .args .text .now) (l .a) (l .p) (omega (arith, l .inv .2, s .pre)) (w .read .ensures) m (e .if1 .left) (c .length .ensures .0) in
+    let r = goodFrom (4096 - (l .a + 1)) (l .a + 1) (drop (l .p + m) (s .args .text .now)) in (
       omega (arith, l .inv .2, s .pre),
       omega (arith, l .inv .1, c .length .ensures .1),
       length-set (l .words) (l .a) _ ∙ l .inv .2,
       omega (arith, l .inv .3, ap length g),
-      omega (arith, l .inv .4, ap (λ (q : List ℕ). length (linesOf (l .a) q)) g, lines-on (l .a) (w .word .result) r, c .length .ensures .0),
+      omega (arith, l .inv .4, ap (λ (q : List ℕ). length (linesOf (l .a) q)) g, lines-on (l .a) (w .read .result) r, c .length .ensures .0),
       laid-first (l .words) (l .a) _ r ∙ (ap (laidOf (l .words) (l .a)) (sym g) ∙ l .inv .5),
     )
 
@@ -115,12 +109,11 @@ good-lines-spec =
     Inv-loop
     μ-loop
     loop-holds
-    cast-good
-    good-requires
+    cast-read
+    read-requires
     same-length
     returns
-    word-requires
-    cast-w
+    cast-v
     mul-words
     slice-write-words
     length-requires
