@@ -1,10 +1,10 @@
 -- What the reader's answer says of the program as bytes: where it is read its words stand first in the words lent, and the one refusal that words enough leave is 26.
-use Prim.Native.Nat.{ℕ, _*_, _≤_, _<_}
+use Prim.Native.Nat.{ℕ, _≤_, _<_}
 use mathlib.Core.Path.{_≡_, _∙_, sym, ap}
 use mathlib.Core.Bool.{true, false}
 use mathlib.Core.List.{List, append-nil, _++_}
 use native.Mathlib.Omega.{arith}
-use lib.ListN.{length, drop, drop-of-length-le}
+use lib.ListN.{length, drop-of-length-le}
 use borrow.Author.Tests.{lt-ltb, le-ltb, eqb-true}
 use Rattle.lent.specs.Lent.{pastedOf, over}
 use Rattle.lent.specs.Outcome.{Outcome, outcome}
@@ -12,7 +12,7 @@ use Rattle.lent.proofs.Laws.{by-test, by-lt, both-true, pasted-front}
 use Rattle.refusal.specs.declared.Refusal.{Refusal}
 use Rattle.refusal.specs.declared.Refusal.the-variants.{Room, Listing}
 use Rattle.refusal.specs.Told.{Said, Counted, doneTold, refusedTold}
-use Rattle.wire.specs.Words.{wordsOf, pairsOf}
+use Rattle.wire.specs.Words.{pairsOf}
 use Rattle.wire.proofs.Laws.{length-pairs}
 use Rattle.paper.specs.declared.Taken.{Taken}
 use Rattle.paper.specs.declared.Taken.the-variants.{Words, Refused}

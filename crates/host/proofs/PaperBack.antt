@@ -8,7 +8,7 @@ use lib.ListN.{length, take, drop}
 use lib.Seq.{take-all, take-suc, take-append-seam, getD-at}
 use borrow.Author.Tests.{le-ltb, ltb-true, ltb-false}
 use Rattle.lent.specs.Lent.{at, over, pairAtOf}
-use Rattle.lent.specs.Outcome.{Outcome, outcome}
+use Rattle.lent.specs.Outcome.{Outcome}
 use Rattle.lent.proofs.Laws.{test, never, by-test, by-lt, by-eq, at-past}
 use Rattle.refusal.specs.declared.Refusal.the-variants.{Listing}
 use Rattle.refusal.specs.Told.{Said, counted, doneTold, refusedTold}
@@ -17,7 +17,6 @@ use Rattle.wire.proofs.Laws.{length-words, pairs-front, words-at}
 use Rattle.wire.proofs.Trips.{words-back}
 use Rattle.paper.specs.declared.Taken.{Taken}
 use Rattle.paper.specs.declared.Written.{Written}
-use Rattle.paper.specs.declared.Written.the-variants as written
 use Rattle.paper.specs.Listing.{listingOf, goodLines, whole, placedOf, writeOf, writtenTold, takenTold, AllWords, FirstBad, Listed}
 use Rattle.paper.proofs.RoundTrip.{lines-back, listed-whole, whole-listed, first-bad}
 use Rattle.host.specs.Told.{Filled, roomTold}

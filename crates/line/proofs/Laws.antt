@@ -7,7 +7,7 @@ use native.Mathlib.Omega.{arith}
 use lib.Dec.{ltb, eqb}
 use lib.ListN.{length, drop, set, length-append}
 use lib.Seq.{drop-drop, getD-drop}
-use borrow.Author.Tests.{eq-eqb, ne-eqb, lt-ltb, le-ltb, eqb-true, eqb-false, ltb-true, ltb-false}
+use borrow.Author.Tests.{eq-eqb, ne-eqb, lt-ltb, le-ltb, eqb-true, ltb-true, ltb-false}
 use Rattle.lent.specs.Lent.{pick, both, at}
 use Rattle.lent.proofs.Laws.{test, both-true}
 use Rattle.text.specs.Text.{hexOf, numberIn, lettersOf, begins, laidOf}

@@ -1,15 +1,14 @@
 -- A listing as loops write and read it: what is done, and what is still to be done.
-use mathlib.Core.Path.{_≡_, _∙_, refl, sym, ap}
+use mathlib.Core.Path.{_≡_, _∙_, sym, ap}
 use mathlib.Core.Bool.{true, false}
 use mathlib.Core.List.{List, [], _∷_, _++_, append-nil}
-use Prim.Native.Nat.{ℕ, zero, suc, _+_, _-_, _<_, _≤_}
+use Prim.Native.Nat.{ℕ, suc, _+_, _-_, _<_, _≤_}
 use native.Mathlib.Omega.{arith}
 use native.Mathlib.Numerals.{add-one}
-use lib.Dec.{ltb, eqb}
 use lib.ListN.{length, drop, set, replicate, drop-of-length-le, length-append, length-replicate}
 use lib.Seq.{drop-drop}
 use borrow.Author.Tests.{lt-ltb, le-ltb, eq-eqb, ne-eqb}
-use Rattle.lent.specs.Lent.{pick, both, at, over}
+use Rattle.lent.specs.Lent.{at, over}
 use Rattle.lent.specs.Outcome.{outcome}
 use Rattle.lent.proofs.Laws.{drop-more}
 use Rattle.refusal.specs.declared.Refusal.the-variants.{ProgramLength, Room, Listing}

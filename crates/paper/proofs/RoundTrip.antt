@@ -1,14 +1,14 @@
 -- Writer and reader are inverse to each other: a program's listing reads back as the program, and no other text is taken; 26 tells the first bad line.
 use mathlib.Core.Path.{_≡_, _∙_, refl, sym, ap}
-use mathlib.Core.Bool.{Bool, true, false}
+use mathlib.Core.Bool.{true}
 use mathlib.Core.List.{List, [], _∷_, _++_, append-nil}
 use Prim.Native.Nat.{ℕ, zero, suc, _+_, _*_, _<_, _≤_}
 use native.Mathlib.Omega.{arith}
-use lib.Dec.{ltb, eqb}
+use lib.Dec.{eqb}
 use lib.ListN.{length, take, drop, drop-of-length-le, length-append, length-take}
 use lib.Seq.{take-all, take-append-seam}
 use borrow.Author.Tests.{eq-eqb, eqb-true}
-use Rattle.lent.specs.Lent.{pick, both, at, over}
+use Rattle.lent.specs.Lent.{over}
 use Rattle.lent.specs.Outcome.{Outcome, outcome}
 use Rattle.lent.proofs.Laws.{both-true, by-test, by-lt, by-eq, never}
 use Rattle.refusal.specs.declared.Refusal.{Refusal}
@@ -22,7 +22,7 @@ use Rattle.paper.specs.declared.Written.{Written}
 use Rattle.paper.specs.declared.Written.the-variants as written
 use Rattle.paper.specs.declared.Taken.{Taken}
 use Rattle.paper.specs.declared.Taken.the-variants as taken
-use Rattle.paper.specs.Listing.{linesOf, listingOf, placedOf, writeOf, goodFrom, goodLines, whole, storedOf, readOf, AllWords, Begins, FirstBad, Listed}
+use Rattle.paper.specs.Listing.{linesOf, listingOf, placedOf, writeOf, goodFrom, goodLines, whole, storedOf, readOf, AllWords, FirstBad, Listed}
 
 -- The good lines from an address on.
 

@@ -8,9 +8,9 @@ use native.Mathlib.Omega.{arith}
 use native.Mathlib.Nat.{zero-add}
 use native.Mathlib.Numerals.{add-one}
 use lib.Dec.{ltb, eqb}
-use lib.ListN.{length, take, drop, set, length-append, length-drop}
-use lib.Seq.{sets, sets-eq, length-sets, set-comm, getD-drop}
-use borrow.Author.Tests.{lt-ltb, le-ltb, eq-eqb, ne-eqb, ltb-true, ltb-false, eqb-true, eqb-false}
+use lib.ListN.{length, drop, set, length-append, length-drop}
+use lib.Seq.{sets-eq, length-sets, set-comm, getD-drop}
+use borrow.Author.Tests.{lt-ltb, le-ltb, eq-eqb, ne-eqb, ltb-true, ltb-false, eqb-true}
 use Rattle.lent.specs.Lent.{pick, both, at, over}
 use Rattle.lent.proofs.Laws.{test, both-true, by-lt, never}
 use Rattle.text.specs.Text.{digitOf, valueOf, hexOf, numberIn, lettersOf, begins, laidOf}
@@ -282,9 +282,6 @@ unfolding lettersOf
 letters-shown t x e = sym (begins-none t) ∙ rw e
 
 -- a text that is too short
-pub begins-short : (s t : List ℕ) → length t < length s → false ≡ begins s t
-begins-short s t h = test (begins s t) (λ e. absurd (let k = begins-fits s t e in omega arith)) (λ e. sym e)
-
 pub letters-short : (t : List ℕ) (p n x : ℕ) → 0 < n → length t < p + n → false ≡ begins (lettersOf n x) (drop p t)
 letters-short t p n x g h =
     test (begins (lettersOf n x) (drop p t))

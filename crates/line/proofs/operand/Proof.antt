@@ -1,5 +1,4 @@
 -- `line::operand`: the same tests in the same order.
-use native.Mathlib.Omega.{arith}
 use Rattle.line.proofs.Laws.{read-none, read-unspaced, read-number, read-over}
 use borrow.Author.Needs.{needs}
 use Rattle.line.proofs.operand.Statement.{statement}

@@ -1,6 +1,5 @@
 -- `mnemonics::name`: the table's entry, and past its end 0.
 use mathlib.Core.Path.{refl}
-use native.Mathlib.Omega.{arith}
 use Rattle.lent.proofs.Laws.{at-past}
 use Rattle.mnemonics.specs.Names.{names, nameOf}
 use borrow.Author.Needs.{needs}

@@ -2,7 +2,6 @@
 use Prim.Native.Nat.{_+_, _≤_}
 use mathlib.Core.Path.{_≡_, _∙_, refl}
 use native.Mathlib.Omega.{arith}
-use borrow.Author.Needs.{needs}
 use lib.ListN.{length, drop}
 use Rattle.text.specs.Text.{lettersOf, begins}
 use Rattle.text.proofs.Laws.{letters-shown, letters-short, letter-other, letter-same}
