@@ -1,51 +1,27 @@
 -- A kind 1 body passes through paper unchanged: what C writes as a listing reads back as the same bytes, and a text that is taken is the listing of the program that then stands in the room.
-use Prim.Native.Nat.{ℕ, zero, suc, _+_, _*_, _/_, _%_, _<_, _≤_}
+use Prim.Native.Nat.{ℕ, _+_, _*_, _≤_}
 use mathlib.Core.Path.{_≡_, _∙_, refl, sym, ap}
-use mathlib.Core.List.{List, [], _∷_, _++_, append-assoc}
+use mathlib.Core.List.{List, _++_}
 use native.Mathlib.Omega.{arith}
 use lib.Dec.{ltb}
 use lib.ListN.{length, take, drop}
-use lib.Seq.{take-all, take-suc, take-append-seam, getD-at}
+use lib.Seq.{take-all, take-append-seam}
 use borrow.Author.Tests.{le-ltb, ltb-true, ltb-false}
-use Rattle.lent.specs.Lent.{at, over, pairAtOf}
+use Rattle.lent.specs.Lent.{over, pairAtOf}
 use Rattle.lent.specs.Outcome.{Outcome}
 use Rattle.lent.proofs.Laws.{test, never, by-test, by-lt, by-eq, at-past}
 use Rattle.refusal.specs.declared.Refusal.the-variants.{Listing}
 use Rattle.refusal.specs.Told.{Said, counted, doneTold, refusedTold}
 use Rattle.wire.specs.Words.{wordsOf, pairsOf}
-use Rattle.wire.proofs.Laws.{length-words, pairs-front, words-at}
-use Rattle.wire.proofs.Trips.{words-back}
+use Rattle.wire.proofs.Laws.{length-words, words-at}
+use Rattle.wire.proofs.Trips.{words-back, bytes-back}
+use Rattle.book_write.specs.Writing.{AllBytes}
 use Rattle.paper.specs.declared.Taken.{Taken}
 use Rattle.paper.specs.declared.Written.{Written}
 use Rattle.paper.specs.Listing.{listingOf, goodLines, whole, placedOf, writeOf, writtenTold, takenTold, AllWords, FirstBad, Listed}
 use Rattle.paper.proofs.RoundTrip.{lines-back, listed-whole, whole-listed, first-bad}
 use Rattle.host.specs.Told.{Filled, roomTold}
 use Rattle.host.specs.Listings.{bytesOf, takenOf, Stored, stored, storedTold, hostListingWriteOf, hostListingReadOf}
-
-abbrev AllBytes : List ℕ → Type 0
-AllBytes l = (i : ℕ) → at l i < 256
-
--- two bytes as a word, and that word as two bytes
-pair-back : (h l : ℕ) → h < 256 → l < 256 → ((256 * h + l) / 256 % 256 ≡ h) × ((256 * h + l) % 256 ≡ l)
-pair-back h l p q = (omega arith, omega arith)
-
-bytes-back : (b : List ℕ) (n : ℕ) → n * 2 ≤ length b → AllBytes b → pairsOf (wordsOf b n) n ≡ take (n * 2) b
-unfolding pairsOf wordsOf pairAtOf
-bytes-back b zero h f = refl
-bytes-back b (suc n) h f =
-    let w = wordsOf b n in
-    let x = 256 * at b (n * 2) + at b (n * 2 + 1) in
-    let p = pair-back (at b (n * 2)) (at b (n * 2 + 1)) (f (n * 2)) (f (n * 2 + 1)) in
-    let z : suc n * 2 ≡ suc (suc (n * 2)) = omega arith in
-    let o : n * 2 + 1 ≡ suc (n * 2) = omega arith in
-    let s : take (suc (suc (n * 2))) b ≡ take (n * 2) b ++ (at b (n * 2) ∷ at b (n * 2 + 1) ∷ []) =
-    take-suc b (suc (n * 2)) 0 (omega arith)
-    ∙ (ap (λ (l : List ℕ). l ++ (at b (suc (n * 2)) ∷ [])) (take-suc b (n * 2) 0 (omega arith))
-    ∙ (append-assoc (take (n * 2) b) (at b (n * 2) ∷ []) (at b (suc (n * 2)) ∷ []) ∙ rw o)) in
-    let i : at (w ++ (x ∷ [])) n ≡ x = getD-at w x [] 0 n (length-words b n) in
-    rw (z, s, i, p .0, p .1)
-    (ap (λ (l : List ℕ). l ++ (at b (n * 2) ∷ at b (n * 2 + 1) ∷ []))
-    (pairs-front w (x ∷ []) n (omega (arith, length-words b n)) ∙ bytes-back b n (omega arith) f))
 
 words-sized : (b : List ℕ) → AllBytes b → AllWords (wordsOf b 4096)
 unfolding pairAtOf

@@ -1,15 +1,15 @@
--- The record and its 45 bytes turn into each other without loss, and numbers of 16 bits read back from their bytes.
+-- The record and its 45 bytes turn into each other without loss, and numbers of 16 bits and their bytes likewise.
 use Prim.Native.Nat.{ℕ, zero, suc, _+_, _*_, _/_, _%_, _<_, _≤_}
 use mathlib.Core.Path.{_≡_, refl, ap, sym, _∙_}
 use mathlib.Core.List.{List, [], _∷_, _++_, append-assoc}
 use native.Mathlib.Omega.{arith}
 use lib.ListN.{length, getD, take, drop, drop-of-length-le}
-use lib.Seq.{drop-cons, take-suc, getD-append-seam, getD-append-add}
+use lib.Seq.{drop-cons, take-suc, getD-append-seam, getD-append-add, getD-at}
 use Rattle.sh_state.specs.declared.machine.Machine.{Machine}
 use Rattle.lent.specs.Lent.{at, pairAtOf}
 use Rattle.wire.specs.Words.{two, pairsOf, wordsOf}
 use Rattle.wire.specs.Record.{bytesOf, recordOf, channelAt, channelsAt, frozenAt}
-use Rattle.wire.proofs.Laws.{length-pairs}
+use Rattle.wire.proofs.Laws.{length-words, length-pairs, pairs-front}
 
 -- n entries from i on
 abbrev spread : ℕ → ℕ → List ℕ → List ℕ
@@ -68,3 +68,23 @@ words-back w r zero h b = refl
 words-back w r (suc n) h b =
     let v = rw (length-pairs w n) at (pair-behind (pairsOf w n) r (at w n) (b n)) in
     rw (append-assoc (pairsOf w n) (two (at w n) []) r, words-back w (two (at w n) r) n (omega arith) b, v) (sym (take-suc w n 0 (omega arith)))
+
+-- and bytes, read as numbers, are their bytes again
+pub bytes-back : (b : List ℕ) (n : ℕ) → n * 2 ≤ length b → ((k : ℕ) → at b k < 256) → pairsOf (wordsOf b n) n ≡ take (n * 2) b
+unfolding pairsOf wordsOf pairAtOf
+bytes-back b zero h f = refl
+bytes-back b (suc n) h f =
+    let w = wordsOf b n in
+    let x = at b (n * 2) in
+    let y = at b (n * 2 + 1) in
+    let v = 256 * x + y in
+    let z : suc n * 2 ≡ suc (suc (n * 2)) = omega arith in
+    let o : n * 2 + 1 ≡ suc (n * 2) = omega arith in
+    let s : take (suc (suc (n * 2))) b ≡ take (n * 2) b ++ (x ∷ y ∷ []) =
+    take-suc b (suc (n * 2)) 0 (omega arith)
+    ∙ (ap (λ (l : List ℕ). l ++ (at b (suc (n * 2)) ∷ [])) (take-suc b (n * 2) 0 (omega arith))
+    ∙ (append-assoc (take (n * 2) b) (x ∷ []) (at b (suc (n * 2)) ∷ []) ∙ rw o)) in
+    let i : at (w ++ (v ∷ [])) n ≡ v = getD-at w v [] 0 n (length-words b n) in
+    rw (z, s, i, high (f (n * 2)) (f (n * 2 + 1)), low x (f (n * 2 + 1)))
+    (ap (λ (l : List ℕ). l ++ (x ∷ y ∷ []))
+    (pairs-front w (v ∷ []) n (omega (arith, length-words b n)) ∙ bytes-back b n (omega arith) f))
