@@ -1,7 +1,7 @@
 /* Compares galhoveia with the second emulator over the C boundary: answers, values, and every lent byte. Two parts, so
    that they can run side by side: `calls` has every word, refusal, panel, list and listing, `runs` the random events,
-   the quiet stretches, and what single steps change. Prints its progress and, as its last line, how many comparisons
-   passed and failed. */
+   the quiet stretches, what single steps change, and every edge of a port's pins. Prints its progress and, as its last
+   line, how many comparisons passed and failed. */
 #include "compare.h"
 #include "support.h"
 
@@ -115,6 +115,7 @@ int main(int argc, char **argv)
         compare_stretches(&plan);
         progress("  (runs: %.1f s)", seconds_since(&start));
         compare_changes(&plan);
+        compare_pins();
     }
     progress("  (%s: %.1f s)", argv[1], seconds_since(&start));
     printf("%lu passed, %lu failed\n", passed, failed);

@@ -17,6 +17,7 @@ void compare_words(const struct plan *plan);
 void compare_runs(const struct plan *plan);
 void compare_stretches(const struct plan *plan);
 void compare_changes(const struct plan *plan);
+void compare_pins(void);
 void compare_refusals(void);
 void compare_lists(const struct plan *plan);
 void compare_panel(void);
