@@ -5,6 +5,7 @@
 #   make wrong           tries every wrong answer by itself, over the proved crates; make wrong CRATE=sh_map those of one crate
 #   make bench           speed beside the second emulator, natively; make bench BEFORE=old/libhost.a also beside an
 #                        earlier library, an archive or object for this processor
+#   make stack           how many bytes of stack each call takes, natively; with BEFORE= also in an earlier library
 CC = gcc
 CXX = g++
 STRICT = -Wall -Wextra -pedantic
@@ -36,6 +37,9 @@ LINKED_CXX = $(CXX)
 LINK = $(CC) -o $@ $^
 SANITIZED_LIB = $(LIB)
 BENCH_LIB = $(LIB)
+# The stack that the header tells of is read off x86-64 code.
+STACK_TEST = "tests/stack.sh $(LIB) $(STACK_MOST) '$(CC)' $(STACK)"
+STACK_MOST = $(shell sed -n 's/^.define GALHOVEIA_STACK_BYTES_MOST \([0-9]*\).*/\1/p' desk/galhoveia.h)
 else
 KIT = $(abspath $(dir $(realpath $(shell command -v rt)))/../on/$(shell uname -m)/toolchain)
 FOREIGN = --target=x86_64-linux-gnu -fPIE -isystem $(shell $(CC) -print-file-name=include) \
@@ -53,6 +57,7 @@ DESK = $(wildcard desk/*.c)
 COMPARE = $(wildcard tests/compare*.c) tests/support.c tests/counting.c tests/machines.c tests/forms.c
 TEXT = tests/text.c desk/assembler.c desk/files.c desk/listing.c desk/mnemonics.c desk/refusal.c desk/texts.c
 BENCH = $(wildcard bench/*.c) desk/files.c desk/refusal.c desk/texts.c
+STACK = $(patsubst %.c,build/native/objects/%.o,tests/stack.c tests/counting.c tests/machines.c)
 TRIALS = tests/trials.c tests/counting.c tests/machines.c tests/forms.c
 HEADERS = $(wildcard bench/*.h desk/*.h tests/*.h second/*.h)
 
@@ -67,6 +72,10 @@ target/staticlib/libhost.a: $(CRATES)
 build/bench/host.o: bench/native.sh $(CRATES)
 	@mkdir -p $(dir $@)
 	bench/native.sh $@
+
+build/bench/host-O%.o: bench/native.sh $(CRATES)
+	@mkdir -p $(dir $@)
+	bench/native.sh $@ -O$*
 
 desk: build/plain/desk
 
@@ -170,9 +179,10 @@ build/sanitized/text: $(patsubst %.c,build/sanitized/objects/%.o,$(TEXT) second/
 FAULTY_DESKS = build/native/forgetful build/native/deaf build/native/torn
 
 test: build/plain/header build/plain/header-cpp build/plain/desk build/plain/compare build/plain/text \
-    build/native/trials $(FAULTY_DESKS)
+    build/native/trials $(STACK) $(FAULTY_DESKS)
 	@tests/all.sh tests/newcomer.sh "tests/header.sh $(CC) $(CXX)" build/plain/header build/plain/header-cpp \
-	    build/plain/text "tests/desk.sh build/plain/desk $(FAULTY_DESKS)" "build/native/trials build/trials" \
+	    build/plain/text "tests/desk.sh build/plain/desk $(FAULTY_DESKS)" $(STACK_TEST) \
+	    "build/native/trials build/trials" \
 	    "tests/beside.sh 'build/plain/compare calls --trials build/trials' 'build/plain/compare runs --book $(BOOK) --events $(EVENTS)'"
 
 # A finding ends with 99, which no command of the desk does. Leaks are not looked for: every command would take seconds
@@ -191,8 +201,12 @@ bench: build/bench/measure
 	@echo "natively on $(shell uname -m); the second emulator is built with -O3"
 	@build/bench/measure
 
+stack: $(STACK) $(BENCH_LIB)
+	@tests/stack.sh $(BENCH_LIB) - "$(CC)" $(STACK)
+	@$(if $(BEFORE),echo; echo "before:"; tests/stack.sh $(BEFORE) - "$(CC)" $(STACK))
+
 clean:
 	rm -rf build
 
-.PHONY: all archive desk demo test test-sanitized wrong bench build/bench/measure asked clean
+.PHONY: all archive desk demo test test-sanitized wrong bench build/bench/measure stack asked clean
 .SECONDARY:

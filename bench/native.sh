@@ -1,5 +1,6 @@
 #!/bin/sh
-# Compiles the proved library for this processor, for measuring only: native.sh OUT.o, from the repository's folder.
+# Compiles the proved library for this processor, for measuring only: native.sh OUT.o [LEVEL], from the repository's
+# folder; LEVEL is how much the compiler does, -O3 as for the archive where none is given.
 # What ships is the kit's archive, which holds x86-64 code and stays as it is: rt proves and compiles the library once
 # more, in a repository of links, with a kit of links whose compiler first keeps a copy of the module it is handed.
 set -e
@@ -32,5 +33,5 @@ ln -s "$PWD/crates" "$PWD/crates.txt" "$parts/repository"
 
 # The module names x86-64 and a processor of it. That another is wanted is all that the compiler remarks on, so what it
 # says is shown only where it fails.
-"$kit/$tools/bin/clang" --target="$(uname -m)-linux-gnu" -fPIC -O3 -c -x ir -o "$1" "$parts/module.bc" 2>"$parts/said" ||
+"$kit/$tools/bin/clang" --target="$(uname -m)-linux-gnu" -fPIC "${2:--O3}" -c -x ir -o "$1" "$parts/module.bc" 2>"$parts/said" ||
     { cat "$parts/said"; exit 1; }

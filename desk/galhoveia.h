@@ -19,6 +19,10 @@
        one number of its type and aligned for it. Not even a length of 0 or a refusal makes a null pointer right.
      - Nothing that is lent to one call overlaps: neither two areas, nor an area and an out value, nor two out values.
      - While a call works, no other thread touches what is lent to it. Calls on separate areas may run side by side.
+     - There is stack for the call, below its arguments: in the archive (x86-64) no call takes more than
+       GALHOVEIA_STACK_BYTES_MOST bytes, whatever is lent to it, and besides what memset and memcpy take, which are the
+       system's. That many are for galhoveia_step; galhoveia_level, galhoveia_picture, galhoveia_fresh and the calls for
+       books take less than 500.
 
    An example: a fresh chip with the watchdog off takes a hundred cycles, and the level on its panel is read.
 
@@ -63,6 +67,7 @@ extern "C" {
 #define GALHOVEIA_BOOK_BYTES_MOST 8933 /* 16 of contents, the program, 240 elements, the level body */
 #define GALHOVEIA_LINE_BYTES_MOST 21   /* the longest line of a listing, with its line feed */
 #define GALHOVEIA_LISTING_BYTES_MOST 86016
+#define GALHOVEIA_STACK_BYTES_MOST 17696
 
 /* The answer of every call. Where several refusals apply, the lowest number is told, but 7 only where nothing else
    applies, and in galhoveia_level 10 and 11 come before 9. */
