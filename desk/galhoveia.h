@@ -20,9 +20,8 @@
      - Nothing that is lent to one call overlaps: neither two areas, nor an area and an out value, nor two out values.
      - While a call works, no other thread touches what is lent to it. Calls on separate areas may run side by side.
      - There is stack for the call, below its arguments: in the archive (x86-64) no call takes more than
-       GALHOVEIA_STACK_BYTES_MOST bytes, whatever is lent to it, and besides what memset and memcpy take, which are the
-       system's. That many are for galhoveia_step; galhoveia_level, galhoveia_picture, galhoveia_fresh and the calls for
-       books take less than 500.
+       GALHOVEIA_STACK_BYTES_MOST bytes, whatever is lent to it, besides what the system's memset and memcpy take.
+       docs/TESTING.md tells it call by call.
 
    An example: a fresh chip with the watchdog off takes a hundred cycles, and the level on its panel is read.
 

@@ -23,7 +23,7 @@ if [ "$(uname -m)" != x86_64 ]; then
     exit
 fi
 { objdump -dr --no-show-raw-insn "$library" && echo; } >"$work/code"
-awk -v most="$most" '
+awk -v told="$most" '
     function fails(why) { print "stack.sh: " why; failed = 1; exit 1 }
     function unknown() { fails(name ": " $0) }
 
@@ -95,6 +95,6 @@ awk -v most="$most" '
         }
         print "  holds  below  by itself, and below the stack pointer"
         for (i = 1; i <= count; i++) printf "%7d%7d  %s\n", own[functions[i]], below[functions[i]], functions[i]
-        if (most != "-" && most != largest) fails("the deepest call takes " largest ", and was to take " most)
-        print passed + (most != "-") " passed, 0 failed"
+        if (told != "-" && told != largest) fails("the deepest call takes " largest ", and was to take " told)
+        print passed + (told != "-") " passed, 0 failed"
     }' "$work/seen" "$work/code"
