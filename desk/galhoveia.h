@@ -6,7 +6,8 @@
      program   8,192 bytes: 4,096 words of 16 bits, high byte first; word n is at bytes 2n and 2n + 1
      memory    1,024 bytes: one nibble of the chip's RAM in each, at the chip's own addresses $000 to $3FF
      record    45 bytes: the registers that are not in RAM, as listed below
-     script    any number of bytes: what happens to the chip, one event in each
+     script    any number of bytes: what happens to the chip, one event in each; of two cars, a car and an event in
+               every two (galhoveia_run_two)
      book      a file of the records desk: a program, the wiring of a panel, and where the panel keeps its level
      listing   a program as text: one line for each of its 4,096 words, described at galhoveia_listing_write
 
@@ -84,8 +85,10 @@ enum {
     GALHOVEIA_LENGTH = 10,        /* a book's contents or length, or the length of a body, is wrong; value: 0 */
     GALHOVEIA_BODY = 11,          /* a body holds a value out of its rule; value: the kind, 2 wiring, 3 level */
     GALHOVEIA_OPTIONS = 12,       /* options above 7 asked of a fresh machine; value: the options */
-    GALHOVEIA_LISTING = 26        /* a text is no listing; value: the number of good lines that it begins with, so the
+    GALHOVEIA_LISTING = 26,       /* a text is no listing; value: the number of good lines that it begins with, so the
                                      first bad line, counted from 0 */
+    GALHOVEIA_CAR = 27,           /* a car above 1 in a script of two cars; value: the first such byte's place */
+    GALHOVEIA_CUT_ENTRY = 28      /* a script of two cars ends behind a car; value: that byte's place */
 };
 
 /* The memory. Cells that exist: $000-$01F registers, $020-$16F data, $300-$348 display, $358-$36D scan, $370-$377
@@ -173,6 +176,26 @@ uint32_t galhoveia_step(const uint8_t *program, size_t program_len, uint8_t *mem
 uint32_t galhoveia_run(const uint8_t *program, size_t program_len, uint8_t *memory, size_t memory_len,
                        uint8_t *record, size_t record_len, const uint8_t *script, size_t script_len,
                        uint32_t stop, uint32_t *reason, uint64_t *events, uint64_t *value);
+
+/* Runs two cars, each with a chip of its own, over one program and one wiring. Each entry of the script is two bytes, the
+   car (0 or 1) and the event that happens to its chip. A car stops as in galhoveia_run: at its own stop address, or
+   before a word that is no instruction, which is no refusal here, since the other car goes on; once stopped, it takes no
+   more entries, no reset either. The run ends with the entry that stops the second car, or with the script. What comes
+   of a car is what its own entries make of it, whatever the other does. Each car's memory and record are those of the
+   state in which it ends, and its picture is what galhoveia_picture gives for that state, after an empty script too:
+   one byte for each element of the wiring, and bytes beyond them stay. *reason0 and *reason1 tell why each car stopped
+   (GALHOVEIA_AT_END where its entries are all taken), *entries how many entries the run has passed, those of a stopped
+   car and one that met a word that is no instruction among them.
+   Can answer, all before anything moves, in this order: 1; 2, 3, 4, at equal numbers car 0's first; 5; 10; 11 (the
+   wiring); 27; 28; 7, car 0's first. The whole script is judged, cut into entries from its front, a lone byte at its end
+   being a car; places count its bytes from 0, so that of an unknown event (5) is odd. */
+uint32_t galhoveia_run_two(const uint8_t *program, size_t program_len, const uint8_t *wiring, size_t wiring_len,
+                           uint8_t *memory0, size_t memory0_len, uint8_t *record0, size_t record0_len,
+                           uint8_t *picture0, size_t room0,
+                           uint8_t *memory1, size_t memory1_len, uint8_t *record1, size_t record1_len,
+                           uint8_t *picture1, size_t room1,
+                           const uint8_t *script, size_t script_len, uint32_t stop0, uint32_t stop1,
+                           uint32_t *reason0, uint32_t *reason1, uint64_t *entries, uint64_t *value);
 
 /* Lists the addresses of all instructions that can change a cell: exactly those for which some state of the chip
    exists in which executing them changes it, those that reach it through the pointer register $00F among them.
