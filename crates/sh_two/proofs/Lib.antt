@@ -1,0 +1,5 @@
+pub mod Runs
+pub mod ByItself
+pub mod Parts
+pub mod Onward
+pub mod Cars
