@@ -9,7 +9,7 @@ use sh_state::machine::Machine;
 ghost use mathlib.Core.Path.{_≡_};
 ghost use Rattle.sh_state.specs.State.{state};
 ghost use Rattle.sh_two.specs.Two.{entriesOf, startOf, twoOf};
-ghost use Rattle.call_two.specs.Two.{lent, lowerOf, lowestOf, carsLentJudged, scriptJudged, roomJudged, twoJudged, answered, endedOf, ranOf, runTwoOf};
+ghost use Rattle.call_two.specs.RunTwo.{lent, lowerOf, lowestOf, carsLentJudged, scriptJudged, roomJudged, twoJudged, answered, endedOf, ranOf, runTwoOf};
 
 // Why each car stopped and how many entries were read, or the refusal.
 pub enum Outcome {
@@ -64,18 +64,27 @@ fn cars_lent(program: &[u16], m: Machine, memory: &[u8], m1: Machine, memory1: &
     )
 }
 
-// 5, 10, 11, 27 and 28.
+// 5, 10, 11, 27 and 28, each by a look at every byte.
+fn script_by_one(wiring: &[u8], script: &[u8]) -> Judged
+    ensures { λ r. ⌜ r ≡ scriptJudged (now (wiring .entry)) (now (script .entry)) ⌝ }
+{
+    judge::first(
+        script::events(script),
+        judge::first(
+            body::wiring(wiring),
+            judge::first(script::cars(script), script::cut(script)),
+        ),
+    )
+}
+
+// Where the script is fine, the wiring is judged alone.
 fn script_judged(wiring: &[u8], script: &[u8]) -> Judged
     ensures { λ r. ⌜ r ≡ scriptJudged (now (wiring .entry)) (now (script .entry)) ⌝ }
 {
-    let ok = script::fine(script);
-    judge::first(
-        script::events(script, ok),
-        judge::first(
-            body::wiring(wiring),
-            judge::first(script::cars(script, ok), script::cut(script)),
-        ),
-    )
+    if script::fine(script) {
+        return body::wiring(wiring);
+    }
+    script_by_one(wiring, script)
 }
 
 // 7.
@@ -83,7 +92,10 @@ fn room_judged(wiring: &[u8], room: &[u8]) -> Judged
     ensures { λ r. ⌜ r ≡ roomJudged (now (wiring .entry)) (now (room .entry)) ⌝ }
 {
     let n = wiring.len() / 3;
-    body::told(room.len() >= n, Refusal::Room(n as u64))
+    if room.len() < n {
+        return Judged::Refused(Refusal::Room(n as u64));
+    }
+    Judged::Fine
 }
 
 fn judged(

@@ -4,15 +4,14 @@ use refusal::Refusal;
 use sh_rules::judge::Judged;
 ghost use Prim.Native.Nat.{_*_, _≤_};
 ghost use mathlib.Core.Path.{_≡_};
-ghost use mathlib.Core.Bool.{true};
 ghost use lib.ListN.{length, drop};
-ghost use Rattle.lent.specs.Lent.{both};
-ghost use Rattle.call_two.specs.Script.{unknownFrom, noCarFrom, eventsJudged, carsJudged, cutJudged, fineOf};
+ghost use Rattle.lent.specs.Lent.{both, failsFrom};
+ghost use Rattle.call_two.specs.Script.{eventFits, carFits, eventsJudged, carsJudged, cutJudged, fineOf};
 
-// How many bytes are looked at together: 32 entries.
-const MANY: usize = 64;
+// How many entries are looked at together.
+const MANY: usize = 32;
 
-// Whether the entries from a place on, below another, have a car and a known event each: a pass with no way out, which the compiler does
+// Whether the entries from one on, below another, have a car and a known event each: a pass with no way out, which the compiler does
 // many at a time.
 fn fine_by_one(script: &[u8], first: usize, end: usize) -> bool
     requires { ⌜ (first ≤ end) × (end * 2 ≤ length (now script)) ⌝ }
@@ -21,39 +20,56 @@ fn fine_by_one(script: &[u8], first: usize, end: usize) -> bool
     let mut ok = true;
     let mut i = first;
     while i < end {
-        ok = lent::both(
-            lent::both(script[i * 2] < 2, sh_known::known(script[i * 2 + 1])),
-            ok,
-        );
+        let entry = lent::both(script[i * 2] < 2, sh_known::known(script[i * 2 + 1]));
+        ok = lent::both(entry, ok);
         i += 1;
     }
     ok
 }
 
-// Whether every car is one and every event is known: where the bytes that stand together are all 0 or 1, cars, cycles and base pulses, none
-// of them is judged.
+// Whether all of a script is entries, each a car and a known event: where bytes that stand together are all 0 or 1, which are cars, cycles
+// and base pulses, none of them is judged.
 pub fn fine(script: &[u8]) -> bool
-    ensures { λ r. ⌜ (r ≡ true → fineOf (now (script .entry)) ≡ true) ⌝ }
+    ensures { λ r. ⌜ r ≡ fineOf (now (script .entry)) ⌝ }
 {
     let all = script.len() / 2;
-    let mut ok = script.len() % 2 == 0;
+    let mut ok = true;
     let mut i: usize = 0;
-    while all - i >= 32 {
-        let next = i + 32;
+    while all - i >= MANY {
+        let next = i + MANY;
         if lent::joined(script, i * 2, next * 2) > 1 {
             ok = lent::both(fine_by_one(script, i, next), ok);
         }
         i = next;
     }
-    lent::both(fine_by_one(script, i, all), ok)
+    let whole = script.len() % 2 == 0;
+    lent::both(fine_by_one(script, i, all), lent::both(whole, ok))
+}
+
+fn event_fits(i: usize, e: u8) -> bool
+    ensures { λ r. ⌜ r ≡ eventFits i e ⌝ }
+{
+    if i % 2 == 1 {
+        return sh_known::known(e);
+    }
+    true
+}
+
+fn car_fits(i: usize, c: u8) -> bool
+    ensures { λ r. ⌜ r ≡ carFits i c ⌝ }
+{
+    if i % 2 == 0 {
+        return c < 2;
+    }
+    true
 }
 
 fn first_unknown(script: &[u8]) -> Found
-    ensures { λ r. ⌜ r ≡ unknownFrom (now (script .entry)) 0 ⌝ }
+    ensures { λ r. ⌜ r ≡ failsFrom eventFits (now (script .entry)) 0 ⌝ }
 {
     let mut i: usize = 0;
     while i < script.len() {
-        if !is_event(i, script[i]) {
+        if !event_fits(i, script[i]) {
             return Found::At(i);
         }
         i += 1;
@@ -61,26 +77,12 @@ fn first_unknown(script: &[u8]) -> Found
     Found::Nothing
 }
 
-fn is_event(i: usize, e: u8) -> bool {
-    if i % 2 == 1 {
-        return sh_known::known(e);
-    }
-    true
-}
-
-fn is_car(i: usize, c: u8) -> bool {
-    if i % 2 == 0 {
-        return c < 2;
-    }
-    true
-}
-
 fn first_no_car(script: &[u8]) -> Found
-    ensures { λ r. ⌜ r ≡ noCarFrom (now (script .entry)) 0 ⌝ }
+    ensures { λ r. ⌜ r ≡ failsFrom carFits (now (script .entry)) 0 ⌝ }
 {
     let mut i: usize = 0;
     while i < script.len() {
-        if !is_car(i, script[i]) {
+        if !car_fits(i, script[i]) {
             return Found::At(i);
         }
         i += 1;
@@ -107,18 +109,16 @@ fn cars_found(f: Found) -> Judged
 }
 
 // 5.
-pub fn events(script: &[u8], ok: bool) -> Judged {
-    if ok {
-        return Judged::Fine;
-    }
+pub fn events(script: &[u8]) -> Judged
+    ensures { λ r. ⌜ r ≡ eventsJudged (failsFrom eventFits (now (script .entry)) 0) ⌝ }
+{
     events_found(first_unknown(script))
 }
 
 // 27.
-pub fn cars(script: &[u8], ok: bool) -> Judged {
-    if ok {
-        return Judged::Fine;
-    }
+pub fn cars(script: &[u8]) -> Judged
+    ensures { λ r. ⌜ r ≡ carsJudged (failsFrom carFits (now (script .entry)) 0) ⌝ }
+{
     cars_found(first_no_car(script))
 }
 
@@ -126,8 +126,9 @@ pub fn cars(script: &[u8], ok: bool) -> Judged {
 pub fn cut(script: &[u8]) -> Judged
     ensures { λ r. ⌜ r ≡ cutJudged (now (script .entry)) ⌝ }
 {
-    if script.len() % 2 == 0 {
+    let n = script.len();
+    if n % 2 == 0 {
         return Judged::Fine;
     }
-    Judged::Refused(Refusal::CutEntry((script.len() - 1) as u64))
+    Judged::Refused(Refusal::CutEntry((n - 1) as u64))
 }

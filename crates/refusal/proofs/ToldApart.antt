@@ -4,7 +4,7 @@ use mathlib.Core.Bool.{cond}
 use Prim.Native.Nat.{ℕ}
 use lib.Dec.{eqb}
 use Rattle.refusal.specs.declared.Refusal.{Refusal}
-use Rattle.refusal.specs.declared.Refusal.the-variants.{ProgramLength, MemoryLength, CellRule, Record, UnknownEvent, UnlistedWord, Room, NotAskable, Digit, Contents, Body, Options, Field, Listing}
+use Rattle.refusal.specs.declared.Refusal.the-variants.{ProgramLength, MemoryLength, CellRule, Record, UnknownEvent, UnlistedWord, Room, NotAskable, Digit, Contents, Body, Options, Field, Listing, Car, CutEntry}
 use Rattle.refusal.specs.Refusal.{numberOf, valueOf}
 
 -- the reason of a number and a value
@@ -23,7 +23,9 @@ reasonOf n v =
     (cond (eqb n 11) (Body v)
     (cond (eqb n 12) (Options v)
     (cond (eqb n 13) Field
-    (Listing v)))))))))))))
+    (cond (eqb n 26) (Listing v)
+    (cond (eqb n 27) (Car v)
+    (CutEntry v)))))))))))))))
 
 reason-back : (a : Refusal) → reasonOf (numberOf a) (valueOf a) ≡ a
 reason-back (ProgramLength v) = refl
@@ -40,6 +42,8 @@ reason-back (Body v) = refl
 reason-back (Options v) = refl
 reason-back Field = refl
 reason-back (Listing v) = refl
+reason-back (Car v) = refl
+reason-back (CutEntry v) = refl
 
 pub told-apart : (a b : Refusal) → numberOf a ≡ numberOf b → valueOf a ≡ valueOf b → a ≡ b
 told-apart a b n v =

@@ -1,7 +1,7 @@
 -- The number and the value of each reason (01, "What comes back when a call is turned down"): the table's first column, its words, its last column; and of those that 02 adds.
 use Prim.Native.Nat.{ℕ}
 use Rattle.refusal.specs.declared.Refusal.{Refusal}
-use Rattle.refusal.specs.declared.Refusal.the-variants.{ProgramLength, MemoryLength, CellRule, Record, UnknownEvent, UnlistedWord, Room, NotAskable, Digit, Contents, Body, Options, Field, Listing}
+use Rattle.refusal.specs.declared.Refusal.the-variants.{ProgramLength, MemoryLength, CellRule, Record, UnknownEvent, UnlistedWord, Room, NotAskable, Digit, Contents, Body, Options, Field, Listing, Car, CutEntry}
 
 -- No.
 abbrev pub numberOf : Refusal → ℕ
@@ -19,6 +19,8 @@ numberOf (Body v) = 11  -- a body value out of its rule, or equal level cells
 numberOf (Options v) = 12  -- options above 7, asked of a fresh machine
 numberOf Field = 13  -- instruction field out of range
 numberOf (Listing v) = 26  -- 02, P3: a text that isn't such a listing
+numberOf (Car v) = 27  -- 02, P5: a car above 1
+numberOf (CutEntry v) = 28  -- 02, P5: a cut entry
 
 -- With it
 abbrev pub valueOf : Refusal → ℕ
@@ -36,3 +38,5 @@ valueOf (Body v) = v  -- body kind
 valueOf (Options v) = v  -- value
 valueOf Field = 0  -- 0
 valueOf (Listing v) = v  -- 02, P3: the first bad line, counted from 0
+valueOf (Car v) = v  -- 02, P5: the byte's place
+valueOf (CutEntry v) = v  -- 02, P5: the byte's place

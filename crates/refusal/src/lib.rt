@@ -17,6 +17,8 @@ pub enum Refusal {
     Options(u64),
     Field,
     Listing(u64),
+    Car(u64),
+    CutEntry(u64),
 }
 
 // The table's number.
@@ -38,6 +40,8 @@ pub fn number(why: Refusal) -> u32
         Refusal::Options(_) => 12,
         Refusal::Field => 13,
         Refusal::Listing(_) => 26,
+        Refusal::Car(_) => 27,
+        Refusal::CutEntry(_) => 28,
     }
 }
 
@@ -60,5 +64,7 @@ pub fn value(why: Refusal) -> u64
         Refusal::Options(given) => given,
         Refusal::Field => 0,
         Refusal::Listing(line) => line,
+        Refusal::Car(place) => place,
+        Refusal::CutEntry(place) => place,
     }
 }

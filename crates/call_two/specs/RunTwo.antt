@@ -1,10 +1,9 @@
 -- The run of two cars as a call (02, P5): the refusals before anything moves, "at equal numbers car 0 first", then the run and both pictures.
 use Prim.Native.Nat.{ℕ, _/_}
-use mathlib.Core.Bool.{not}
 use mathlib.Core.List.{List}
 use lib.Dec.{ltb, eqb}
 use lib.ListN.{length}
-use Rattle.lent.specs.Lent.{pick}
+use Rattle.lent.specs.Lent.{pick, failsFrom}
 use Rattle.refusal.specs.declared.Refusal.{Refusal}
 use Rattle.refusal.specs.declared.Refusal.the-variants as refusal
 use Rattle.refusal.specs.Refusal.{numberOf}
@@ -16,7 +15,7 @@ use Rattle.body.specs.Body.{told, wiringJudged}
 use Rattle.picture.specs.Picture.{pictureOf}
 use Rattle.sh_two.specs.Two as sh
 use Rattle.call_two.specs.declared.Outcome.{Outcome}
-use Rattle.call_two.specs.Script.{unknownFrom, noCarFrom, eventsJudged, carsJudged, cutJudged}
+use Rattle.call_two.specs.Script.{eventFits, carFits, eventsJudged, carsJudged, cutJudged}
 
 -- what is lent for a car: its machine and memory, and the room of its picture
 pub record Lent : Type 0 where
@@ -43,12 +42,12 @@ carsLentJudged p s t =
 -- 5, 10, 11, 27, 28
 unfoldable pub scriptJudged : List ℕ → List ℕ → Judged
 scriptJudged wiring script =
-    firstOf (eventsJudged (unknownFrom script 0))
-    (firstOf (wiringJudged wiring) (firstOf (carsJudged (noCarFrom script 0)) (cutJudged script)))
+    firstOf (eventsJudged (failsFrom eventFits script 0))
+    (firstOf (wiringJudged wiring) (firstOf (carsJudged (failsFrom carFits script 0)) (cutJudged script)))
 
 -- 7: room for one byte for each element
 unfoldable pub roomJudged : List ℕ → List ℕ → Judged
-roomJudged wiring room = told (not (ltb (length room) (length wiring / 3))) (refusal.Room (length wiring / 3))
+roomJudged wiring room = pick (ltb (length room) (length wiring / 3)) (Refused (refusal.Room (length wiring / 3))) Fine
 
 unfoldable pub twoJudged : List ℕ → List ℕ → Lent → Lent → List ℕ → Judged
 twoJudged p wiring a b script =
