@@ -1,4 +1,5 @@
 pub mod Laws
+pub mod Cars
 pub mod Lists
 pub mod Kept
 pub mod Leaves

@@ -7,3 +7,4 @@ pub mod Level
 pub mod Picture
 pub mod Books
 pub mod Listings
+pub mod RunTwo

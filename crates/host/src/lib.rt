@@ -8,3 +8,4 @@ pub mod pictures;
 pub mod run;
 pub mod step;
 mod told;
+pub mod two;

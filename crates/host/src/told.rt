@@ -23,7 +23,7 @@ pub fn refused(why: Refusal, value: &mut u64) -> u32
     refusal::number(why)
 }
 
-fn judged(j: Judged, value: &mut u64) -> u32
+pub fn judged(j: Judged, value: &mut u64) -> u32
     ensures { λ r. ⌜ said r (now (value .exit)) ≡ judgedTold j ⌝ }
 {
     match j {
