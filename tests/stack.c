@@ -11,11 +11,11 @@
 #include <string.h>
 #include <ucontext.h>
 
-enum { TURNS = 3000, EVENTS = 500, DAMAGED_ONE_IN = 16, ELEMENTS_MOST = GALHOVEIA_ELEMENTS_MOST };
+enum { TURNS = 3000, EVENTS = 500, DAMAGED_ONE_IN = 16 };
 
 /* ---- What is lent ---- */
 
-static uint8_t program[PROGRAM_BYTES], script[EVENTS], wiring[3 * ELEMENTS_MOST], panel_level[GALHOVEIA_LEVEL_BYTES];
+static uint8_t program[PROGRAM_BYTES], script[EVENTS], wiring[WIRING_MOST], panel_level[GALHOVEIA_LEVEL_BYTES];
 static uint8_t addresses[PROGRAM_BYTES], picture[ELEMENTS_MOST], words[PROGRAM_BYTES];
 static uint8_t book[GALHOVEIA_BOOK_BYTES_MOST], text[LISTING_BYTES_MOST];
 static struct machine machine;

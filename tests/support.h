@@ -8,6 +8,7 @@
 #include <stdint.h>
 
 enum { PROGRAM_BYTES = 8192, MEMORY_BYTES = 1024, RECORD_BYTES = 45, WORDS = 4096, NO_STOP = 4096 };
+enum { ELEMENTS_MOST = 240, WIRING_MOST = 3 * ELEMENTS_MOST };
 enum { LINE_BYTES_MOST = 21, LISTING_BYTES_MOST = WORDS * LINE_BYTES_MOST };
 
 /* Where each field of the record begins (01, What is lent; 02, P1 and P2); channel 2 stands behind channel 1. */
@@ -84,6 +85,7 @@ enum mix { MIX_BUSY, MIX_TIMERS, MIX_ASLEEP, MIX_READS, MIX_NESTED, MIX_ANY, MIX
 
 void random_program(uint8_t program[PROGRAM_BYTES], enum mix mix);
 void random_script(uint8_t *script, size_t length, enum mix mix);
+void random_wiring(uint8_t *body, unsigned elements);
 
 /* ---- Every call on both sides ---- */
 
