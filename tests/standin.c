@@ -24,9 +24,9 @@ uint32_t galhoveia_run_two(const uint8_t *program, size_t program_len, const uin
                            size_t script_len, uint32_t stop0, uint32_t stop1, uint32_t *reason0, uint32_t *reason1,
                            uint64_t *entries, uint64_t *value)
 {
-    return second_run_two(program, program_len, wiring, wiring_len, memory0, memory0_len, record0, record0_len, picture0,
-                          room0, memory1, memory1_len, record1, record1_len, picture1, room1, script, script_len, stop0,
-                          stop1, reason0, reason1, entries, value);
+    return second_run_two(program, program_len, wiring, wiring_len, memory0, memory0_len, record0, record0_len,
+                          picture0, room0, memory1, memory1_len, record1, record1_len, picture1, room1, script,
+                          script_len, stop0, stop1, reason0, reason1, entries, value);
 }
 
 uint32_t galhoveia_list(const uint8_t *program, size_t program_len, uint32_t cell, uint8_t *addresses, size_t room,
