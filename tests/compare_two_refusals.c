@@ -23,7 +23,7 @@ static unsigned elements;
 static struct {
     struct lent program, wiring, script;
     struct lent_car car[CARS];
-} lent;
+} offer;
 
 /* A script of known events of both cars. */
 static void good_script(size_t entries)
@@ -35,7 +35,7 @@ static void good_script(size_t entries)
         script[2 * entry] = (uint8_t)any(2);
         script[2 * entry + 1] = events[entry];
     }
-    lent.script = (struct lent){script, 2 * entries};
+    offer.script = (struct lent){script, 2 * entries};
 }
 
 /* Nothing stands against it: an unlisted word, in front of which a car may stand, does not. */
@@ -43,21 +43,21 @@ static void good_offer(void)
 {
     elements = any(4) ? 1 + any(8) : 1 + any(ELEMENTS_MOST);
     random_wiring(wiring, elements);
-    lent.program = LENT(program);
-    lent.wiring = (struct lent){wiring, ELEMENT_BYTES * elements};
+    offer.program = LENT(program);
+    offer.wiring = (struct lent){wiring, ELEMENT_BYTES * elements};
     good_script(1 + any(SHORT));
     for (int at = 0; at < CARS; at++) {
         random_machine(&machine[at]);
         for (unsigned byte = 0; byte < sizeof picture[at]; byte++)
             picture[at][byte] = (uint8_t)any(256);
-        lent.car[at] = (struct lent_car){LENT(machine[at].memory), LENT(machine[at].record),
+        offer.car[at] = (struct lent_car){LENT(machine[at].memory), LENT(machine[at].record),
                                          {picture[at], elements + any(BEYOND_MOST + 1)}, any(2 * WORDS)};
     }
 }
 
 static uint32_t made(void)
 {
-    return pair_run_two(lent.program, lent.wiring, lent.car, lent.script);
+    return pair_run_two(offer.program, offer.wiring, offer.car, offer.script);
 }
 
 static uint8_t unknown_event(void)
@@ -127,14 +127,14 @@ static size_t put_in_entries(size_t byte, size_t entries, uint8_t (*bad)(void))
 /* An entry's car byte and its event byte are bad each for itself; the lone byte of a cut entry is one more car byte. */
 static void put_in_script(unsigned set)
 {
-    size_t entries = lent.script.length / 2;
+    size_t entries = offer.script.length / 2;
 
     if (set & 1u << EVENT)
         told[EVENT].value = 2 * put_in_entries(1, entries, unknown_event) + 1;
     if (set & 1u << CUT) {
         script[2 * entries] = (uint8_t)any(CARS);
         told[CUT].value = 2 * entries;
-        lent.script.length++;
+        offer.script.length++;
     }
     if (set & 1u << CAR)
         told[CAR].value = 2 * put_in_entries(0, entries + (set & 1u << CUT ? 1 : 0), no_car);
@@ -154,7 +154,7 @@ static void put_in_wiring(unsigned set)
             set_two(element, any(2) ? 0x349 + any(0x100) : any(0x300));
     }
     if (set & 1u << WIRING_LENGTH)
-        lent.wiring.length = any(8) ? ELEMENT_BYTES * elements - 1 - any(2) : any(2) ? 0 : WIRING_MOST + ELEMENT_BYTES;
+        offer.wiring.length = any(8) ? ELEMENT_BYTES * elements - 1 - any(2) : any(2) ? 0 : WIRING_MOST + ELEMENT_BYTES;
     told[WIRING_LENGTH].number = 10;
     told[WIRING_VALUE].number = 11;
     told[WIRING_VALUE].value = KIND_WIRING;
@@ -167,11 +167,11 @@ static void put_lengths(unsigned set)
     static const uint16_t record_lengths[] = {0, 1, 36, 37, 38, 42, 43, 44, 46, 90};
 
     if (set & 1u << PROGRAM_LENGTH)
-        lent.program = (struct lent){long_area, ANY_OF(program_lengths)};
+        offer.program = (struct lent){long_area, ANY_OF(program_lengths)};
     told[PROGRAM_LENGTH].number = 1;
-    told[PROGRAM_LENGTH].value = lent.program.length;
+    told[PROGRAM_LENGTH].value = offer.program.length;
     for (int at = 0; at < CARS; at++) {
-        struct lent_car *car = &lent.car[at];
+        struct lent_car *car = &offer.car[at];
 
         if (set & 1u << (MEMORY_LENGTH + at))
             car->memory = (struct lent){long_area, ANY_OF(memory_lengths)};
@@ -232,7 +232,7 @@ static void orders(void)
 /* One byte of a script that is good, but that its last entry may be cut. */
 static void expect_byte(size_t place, uint8_t byte)
 {
-    bool is_event = place % 2 == 1, is_cut = lent.script.length % 2 == 1;
+    bool is_event = place % 2 == 1, is_cut = offer.script.length % 2 == 1;
 
     script[place] = byte;
     if (is_event && !is_known(byte))
@@ -240,7 +240,7 @@ static void expect_byte(size_t place, uint8_t byte)
     else if (!is_event && byte >= CARS)
         expect("two cars, a car byte", made(), 27, place);
     else if (is_cut)
-        expect("two cars, a cut entry", made(), 28, lent.script.length - 1);
+        expect("two cars, a cut entry", made(), 28, offer.script.length - 1);
     else
         expect("two cars, a good byte", made(), 0, 0);
 }
@@ -252,7 +252,7 @@ static void every_byte(void)
             for (size_t place = 0; place < length; place++) {
                 good_offer();
                 good_script((length + 1) / 2);
-                lent.script.length = length;
+                offer.script.length = length;
                 expect_byte(place, (uint8_t)byte);
             }
     progress("two cars: every event, car and lone byte at every place of short scripts; failed so far %lu", failed);
@@ -268,7 +268,7 @@ static void every_length(void)
         good_offer();
         good_script(entries);
         expect("two cars, a good script", made(), 0, 0);
-        lent.script.length++;
+        offer.script.length++;
         for (uint8_t byte = 0; byte < 4; byte++)
             expect_byte(2 * entries, byte);
         for (unsigned place = 0; entries > 0 && place < sizeof at / sizeof at[0]; place++) {
@@ -310,7 +310,7 @@ static void every_machine(void)
                 if (value % 16 == 0)
                     good_offer();
                 machine[at].record[byte] = (uint8_t)value;
-                alone = pair_picture(lent.car[at].memory, lent.car[at].record, lent.wiring, lent.car[at].picture);
+                alone = pair_picture(offer.car[at].memory, offer.car[at].record, offer.wiring, offer.car[at].picture);
                 check(alone == 0 || alone == 4, "record %u as %u: picture answers %u", byte, value, alone);
                 expect("two cars, a byte of a record", made(), alone, 0);
             }
@@ -326,18 +326,18 @@ static void every_wiring(void)
 
         good_offer();
         random_wiring(wiring, ELEMENTS_MOST + 1);
-        lent.wiring = (struct lent){wiring, length};
+        offer.wiring = (struct lent){wiring, length};
         for (int at = 0; at < CARS; at++)
-            lent.car[at].picture.length = needed;
+            offer.car[at].picture.length = needed;
         if (!good) {
             expect("two cars, a wiring's length", made(), 10, 0);
             continue;
         }
         expect("two cars, a wiring", made(), 0, 0);
         for (int at = 0; at < CARS; at++) {
-            lent.car[at].picture.length = any(2) ? needed - 1 : any(needed);
+            offer.car[at].picture.length = any(2) ? needed - 1 : any(needed);
             expect("two cars, a room", made(), 7, needed);
-            lent.car[at].picture.length = needed;
+            offer.car[at].picture.length = needed;
         }
         wiring[ELEMENT_BYTES * any(needed) + 2] = (uint8_t)(4 + any(252));
         expect("two cars, a wiring's bit", made(), 11, KIND_WIRING);
