@@ -52,9 +52,9 @@ BENCH_LIB = build/bench/host.o
 endif
 
 CRATES = crates.txt $(wildcard crates/*/src/*.rt)
-SECOND = second/second.c second/search.c second/instruction.c second/listing.c
+SECOND = second/second.c second/two.c second/search.c second/instruction.c second/listing.c
 DESK = $(wildcard desk/*.c)
-COMPARE = $(wildcard tests/compare*.c) tests/support.c tests/counting.c tests/machines.c tests/forms.c
+COMPARE = $(wildcard tests/compare*.c) tests/support.c tests/lending.c tests/counting.c tests/machines.c tests/forms.c
 TEXT = tests/text.c desk/assembler.c desk/files.c desk/listing.c desk/mnemonics.c desk/refusal.c desk/texts.c
 BENCH = $(wildcard bench/*.c) desk/files.c desk/refusal.c desk/texts.c
 STACK = $(patsubst %.c,build/native/objects/%.o,tests/stack.c tests/counting.c tests/machines.c)

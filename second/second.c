@@ -1,6 +1,7 @@
 /* The emulator: the machine's parts in the order of document 01, then the calls with their refusals. */
 #include "second.h"
 
+#include "judging.h"
 #include "search.h"
 
 #include <string.h>
@@ -626,7 +627,7 @@ static inline bool cycle(struct second_machine *m, const uint8_t *program)
     return true;
 }
 
-static bool is_known(uint8_t event)
+bool second_is_known(uint8_t event)
 {
     return event <= EVENT_RESET || event == EVENT_SOUND || (EVENT_PINS <= event && event <= EVENT_PINS_LAST);
 }
@@ -762,7 +763,7 @@ void second_pack(const struct second_machine *machine, uint8_t *memory, uint8_t 
     (void)give_byte(to, machine->frozen_mark);
 }
 
-static bool is_well_formed(const struct second_machine *m)
+bool second_is_well_formed(const struct second_machine *m)
 {
     if (m->pc >= SECOND_WORDS || m->ac > 15 || m->cy > 1 || m->mode > SECOND_STOP)
         return false;
@@ -803,7 +804,7 @@ static uint32_t answer(uint64_t *value, uint32_t number, uint64_t with)
 }
 
 /* Most memories are good, so the lowest bad cell is looked for only once there is one. */
-static uint32_t judge_memory(const uint8_t *memory, size_t memory_len, uint64_t *value)
+uint32_t second_judge_memory(const uint8_t *memory, size_t memory_len, uint64_t *value)
 {
     uint8_t bad = 0;
     size_t lowest = 0;
@@ -823,14 +824,14 @@ static uint32_t judge_memory(const uint8_t *memory, size_t memory_len, uint64_t 
 static uint32_t judge_machine(struct second_machine *m, const uint8_t *memory, size_t memory_len,
                               const uint8_t *record, size_t record_len, uint64_t *value)
 {
-    uint32_t refusal = judge_memory(memory, memory_len, value);
+    uint32_t refusal = second_judge_memory(memory, memory_len, value);
 
     if (refusal != DONE)
         return refusal;
     if (record_len != SECOND_RECORD_BYTES)
         return answer(value, RECORD, 0);
     second_unpack(m, memory, record);
-    return answer(value, is_well_formed(m) ? DONE : RECORD, 0);
+    return answer(value, second_is_well_formed(m) ? DONE : RECORD, 0);
 }
 
 static bool is_display(uint32_t cell)
@@ -856,7 +857,7 @@ uint32_t second_step(const uint8_t *program, size_t program_len, uint8_t *memory
     refusal = judge_machine(&machine, memory, memory_len, record, record_len, value);
     if (refusal != DONE)
         return refusal;
-    if (!is_known(event))
+    if (!second_is_known(event))
         return answer(value, UNKNOWN_EVENT, 0);
     if (event != EVENT_CYCLE)
         apply_other(&machine, event);
@@ -880,7 +881,7 @@ uint32_t second_run(const uint8_t *program, size_t program_len, uint8_t *memory,
     if (refusal != DONE)
         return refusal;
     for (size_t place = 0; place < script_len; place++)
-        if (!is_known(script[place]))
+        if (!second_is_known(script[place]))
             return answer(value, UNKNOWN_EVENT, place);
     why = second_run_machine(&machine, program, script, script_len, stop, events);
     *reason = why;
@@ -952,12 +953,12 @@ static uint16_t pair_at(const uint8_t *bytes)
     return (uint16_t)(bytes[0] << 8 | bytes[1]);
 }
 
-static bool is_wiring_length(size_t length)
+bool second_is_wiring_length(size_t length)
 {
     return length >= ELEMENT_BYTES && length <= ELEMENT_BYTES * ELEMENTS_LAST && length % ELEMENT_BYTES == 0;
 }
 
-static bool is_good_wiring(const uint8_t *body, size_t length)
+bool second_is_good_wiring(const uint8_t *body, size_t length)
 {
     for (size_t place = 0; place < length; place += ELEMENT_BYTES)
         if (!is_display(pair_at(body + place)) || body[place + 2] > 3)
@@ -976,7 +977,7 @@ static bool is_good_level(const uint8_t *body)
 uint32_t second_level(const uint8_t *memory, size_t memory_len, const uint8_t *body, size_t body_len,
                       int32_t *level, uint64_t *value)
 {
-    uint32_t refusal = judge_memory(memory, memory_len, value);
+    uint32_t refusal = second_judge_memory(memory, memory_len, value);
     uint8_t high, low;
 
     if (refusal != DONE)
@@ -1006,9 +1007,9 @@ uint32_t second_picture(const uint8_t *memory, size_t memory_len, const uint8_t 
 
     if (refusal != DONE)
         return refusal;
-    if (!is_wiring_length(body_len))
+    if (!second_is_wiring_length(body_len))
         return answer(value, LENGTH, 0);
-    if (!is_good_wiring(body, body_len))
+    if (!second_is_good_wiring(body, body_len))
         return answer(value, BODY, KIND_WIRING);
     if (room < elements)
         return answer(value, ROOM, elements);
@@ -1049,13 +1050,13 @@ uint32_t second_book_read(const uint8_t *book, size_t book_len, uint64_t *progra
     if (book_len < wiring_at + LEVEL_BYTES)
         return answer(value, LENGTH, 0);
     length[1] = book_len - wiring_at - LEVEL_BYTES;
-    if (!is_wiring_length(length[1]))
+    if (!second_is_wiring_length(length[1]))
         return answer(value, LENGTH, 0);
     make_contents(contents, length);
     if (memcmp(book, contents, CONTENTS_BYTES) != 0)
         return answer(value, LENGTH, 0);
     level_at = wiring_at + length[1];
-    if (!is_good_wiring(book + wiring_at, length[1]))
+    if (!second_is_good_wiring(book + wiring_at, length[1]))
         return answer(value, BODY, KIND_WIRING);
     if (!is_good_level(book + level_at))
         return answer(value, BODY, KIND_LEVEL);
@@ -1075,9 +1076,9 @@ uint32_t second_book_write(const uint8_t *program, size_t program_len, const uin
     const size_t length[KINDS] = {program_len, wiring_len, level_len};
     size_t needed;
 
-    if (program_len != SECOND_PROGRAM_BYTES || !is_wiring_length(wiring_len) || level_len != LEVEL_BYTES)
+    if (program_len != SECOND_PROGRAM_BYTES || !second_is_wiring_length(wiring_len) || level_len != LEVEL_BYTES)
         return answer(value, LENGTH, 0);
-    if (!is_good_wiring(wiring, wiring_len))
+    if (!second_is_good_wiring(wiring, wiring_len))
         return answer(value, BODY, KIND_WIRING);
     if (!is_good_level(level))
         return answer(value, BODY, KIND_LEVEL);

@@ -32,6 +32,15 @@ uint32_t second_run(const uint8_t *program, size_t program_len, uint8_t *memory,
                     uint8_t *record, size_t record_len, const uint8_t *script, size_t script_len,
                     uint32_t stop, uint32_t *reason, uint64_t *events, uint64_t *value);
 
+/* Two cars over one program and one wiring (two.c). An unlisted word is no refusal here, but its car's reason. */
+uint32_t second_run_two(const uint8_t *program, size_t program_len, const uint8_t *wiring, size_t wiring_len,
+                        uint8_t *memory0, size_t memory0_len, uint8_t *record0, size_t record0_len,
+                        uint8_t *picture0, size_t room0,
+                        uint8_t *memory1, size_t memory1_len, uint8_t *record1, size_t record1_len,
+                        uint8_t *picture1, size_t room1,
+                        const uint8_t *script, size_t script_len, uint32_t stop0, uint32_t stop1,
+                        uint32_t *reason0, uint32_t *reason1, uint64_t *entries, uint64_t *value);
+
 uint32_t second_list(const uint8_t *program, size_t program_len, uint32_t cell,
                      uint8_t *addresses, size_t room, uint64_t *count, uint64_t *value);
 

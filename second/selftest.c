@@ -3163,6 +3163,534 @@ static void listings(void)
     every_word_on_paper();
 }
 
+/* ---- Two cars ---- */
+
+static struct {
+    uint8_t memory[1024], record[45], picture[5];
+} car[2];
+
+static const uint8_t lamps[9] = {0x03, 0x00, 0, 0x03, 0x00, 1, 0x03, 0x48, 3};
+static uint32_t reason_of[2];
+static uint64_t entries_read;
+
+/* What a call of two cars is lent besides, so that a case can lend it wrong. */
+static struct {
+    size_t program, wiring, memory[2], record[2], room[2];
+} lent_length;
+static const uint8_t *lent_wiring;
+
+/* Two fresh cars, a program of NOPs, and rooms for the pictures of three lamps and two bytes beyond. */
+static void two_fresh(void)
+{
+    fresh();
+    for (int at = 0; at < 2; at++) {
+        memcpy(car[at].memory, memory, sizeof memory);
+        memcpy(car[at].record, record, sizeof record);
+        memset(car[at].picture, 0xEE, sizeof car[at].picture);
+        lent_length.memory[at] = sizeof memory;
+        lent_length.record[at] = sizeof record;
+        lent_length.room[at] = sizeof car[at].picture;
+    }
+    lent_length.program = sizeof program;
+    lent_length.wiring = sizeof lamps;
+    lent_wiring = lamps;
+}
+
+static uint32_t run_two(const uint8_t *script, size_t length, uint32_t stop0, uint32_t stop1)
+{
+    reason_of[0] = reason_of[1] = 99;
+    entries_read = 99;
+    told = 99;
+    return second_run_two(program, lent_length.program, lent_wiring, lent_length.wiring,
+                          car[0].memory, lent_length.memory[0], car[0].record, lent_length.record[0],
+                          car[0].picture, lent_length.room[0],
+                          car[1].memory, lent_length.memory[1], car[1].record, lent_length.record[1],
+                          car[1].picture, lent_length.room[1],
+                          script, length, stop0, stop1, &reason_of[0], &reason_of[1], &entries_read, &told);
+}
+
+static unsigned pc_of(int at)
+{
+    return (unsigned)car[at].record[R_PC] << 8 | car[at].record[R_PC + 1];
+}
+
+static void set_pc_of(int at, unsigned pc)
+{
+    car[at].record[R_PC] = (uint8_t)(pc >> 8);
+    car[at].record[R_PC + 1] = (uint8_t)pc;
+}
+
+/* A run that is done, why each car stopped and where, and the entries read. */
+static void two_end(const uint8_t *script, size_t length, uint32_t stop0, uint32_t stop1, const unsigned reasons[2],
+                    const unsigned pcs[2], unsigned entries)
+{
+    is("answer", run_two(script, length, stop0, stop1), 0);
+    is("value", (long long)told, 0);
+    is("entries read", (long long)entries_read, entries);
+    is("reason of car 0", reason_of[0], reasons[0]);
+    is("reason of car 1", reason_of[1], reasons[1]);
+    is("PC of car 0", pc_of(0), pcs[0]);
+    is("PC of car 1", pc_of(1), pcs[1]);
+}
+
+#define ENDS(script, stop0, stop1, reason0, reason1, pc0, pc1, entries) \
+    two_end(script, sizeof script, stop0, stop1, (unsigned[]){reason0, reason1}, (unsigned[]){pc0, pc1}, entries)
+
+static void each_entry_has_its_car(void)
+{
+    static const uint8_t both[] = {0, CYCLE, 1, CYCLE, 0, CYCLE};
+    static const uint8_t pins_of_1[] = {1, PIN_B | 5};
+    static const uint8_t only_0[] = {0, CYCLE, 0, CYCLE, 0, CYCLE};
+    static const uint8_t pulses[] = {0, BASE_PULSE, 1, WATCHDOG_PULSE, 1, WATCHDOG_PULSE, 0, SOUND_CLOCK, 1, RESET_PIN};
+
+    from("02, P5: an entry is the car and then the event");
+    two_fresh();
+    put(0, made(LDI, 0x20, 7));
+    put(1, made(LDI, 0x21, 9));
+    ENDS(both, NO_STOP, NO_STOP, 2, 2, 2, 1, 3);
+    is("$020 of car 0", car[0].memory[0x020], 7);
+    is("$021 of car 0", car[0].memory[0x021], 9);
+    is("$020 of car 1", car[1].memory[0x020], 7);
+    is("$021 of car 1", car[1].memory[0x021], 0);
+    two_fresh();
+    ENDS(pins_of_1, NO_STOP, NO_STOP, 2, 2, 0, 0, 1);
+    is("pins B of car 0", car[0].record[R_PIN_B], 0);
+    is("pins B of car 1", car[1].record[R_PIN_B], 5);
+    from("02, P5: a car without entries");
+    two_fresh();
+    ENDS(only_0, NO_STOP, NO_STOP, 2, 2, 3, 0, 3);
+    is("prescaler of car 0", car[0].record[R_T0_PRESCALER + 1], 3);
+    is("prescaler of car 1", car[1].record[R_T0_PRESCALER + 1], 0);
+    from("02, P5: every kind of event");
+    two_fresh();
+    for (int at = 0; at < 2; at++) {
+        car[at].memory[0x003] = 8; /* base timer on, ratio 1 */
+        car[at].memory[0x377] = 1;
+        car[at].memory[0x371] = 1;
+        car[at].record[R_OPTIONS] = 1;
+        set_pc_of(at, 0x123);
+    }
+    ENDS(pulses, NO_STOP, NO_STOP, 2, 2, 0x123, 0, 5);
+    is("base counter of car 0", car[0].record[R_BASE_COUNTER], 1);
+    is("base counter of car 1", car[1].record[R_BASE_COUNTER], 0);
+    is("count of car 0's channel", car[0].record[R_COUNT_1 + 1], 126);
+    is("count of car 1's channel", car[1].record[R_COUNT_1 + 1], 0);
+    is("watchdog of car 0", car[0].record[R_WATCHDOG + 1], 0);
+    is("watchdog of car 1 after its reset", car[1].record[R_WATCHDOG] << 8 | car[1].record[R_WATCHDOG + 1], 4096);
+    is("$003 of car 0", car[0].memory[0x003], 8);
+    is("$003 of car 1 after its reset", car[1].memory[0x003], 0);
+}
+
+static void each_car_stops(void)
+{
+    static const uint8_t turns[] = {0, CYCLE, 1, CYCLE, 0, CYCLE, 1, CYCLE, 0, CYCLE, 1, CYCLE, 0, CYCLE, 1, CYCLE};
+    static const uint8_t only_0[] = {0, CYCLE, 0, CYCLE, 0, CYCLE};
+    static const uint8_t only_1[] = {1, CYCLE, 1, CYCLE, 1, CYCLE};
+    static const uint8_t twice_1[] = {1, CYCLE, 1, CYCLE, 0, CYCLE, 0, CYCLE};
+    static const uint8_t reset_then_cycle[] = {1, RESET_PIN, 1, CYCLE};
+
+    from("02, P5: a car stops at its own stop address");
+    two_fresh();
+    ENDS(turns, 2, 3, 0, 0, 2, 3, 6);
+    two_fresh();
+    ENDS(turns, 3, 1, 0, 0, 3, 1, 5);
+    two_fresh();
+    ENDS(turns, 2, NO_STOP, 0, 2, 2, 4, 8);
+    two_fresh();
+    ENDS(turns, NO_STOP, 2, 2, 0, 4, 2, 8);
+    from("02, P5: the stop address of the other car is not looked at");
+    two_fresh();
+    ENDS(only_0, NO_STOP, 1, 2, 2, 3, 0, 3);
+    two_fresh();
+    ENDS(only_1, 1, NO_STOP, 2, 2, 0, 3, 3);
+    from("01, 4096 and up: none");
+    two_fresh();
+    ENDS(turns, 0x1002, 0xFFFFFFFF, 2, 2, 4, 4, 8);
+    from("01, the earlier named if two hold");
+    two_fresh();
+    ENDS(turns, 4, 4, 0, 0, 4, 4, 8);
+    two_fresh();
+    put(1, 0xF800);
+    ENDS(turns, 1, NO_STOP, 0, 1, 1, 1, 4);
+    from("reading 18: also a cycle asleep, never another event");
+    two_fresh();
+    car[0].record[R_MODE] = IN_HALT;
+    car[1].record[R_MODE] = IN_STOP;
+    set_pc_of(0, 5);
+    set_pc_of(1, 6);
+    ENDS(turns, 5, 6, 0, 0, 5, 6, 2);
+    two_fresh();
+    set_pc_of(1, 5);
+    ENDS(reset_then_cycle, NO_STOP, 0, 2, 2, 0, 1, 2);
+
+    from("02, P5: a car that meets an unlisted word; the call is not refused");
+    two_fresh();
+    put(1, 0xF800);
+    set_pc_of(1, 5);
+    car[0].record[R_PENDING] = 1;
+    car[0].record[R_PENDING_ADDRESS + 1] = 9;
+    ENDS(turns, NO_STOP, NO_STOP, 1, 2, 1, 9, 8);
+    is("the cycle before the word", car[0].record[R_T0_PRESCALER + 1], 1);
+    is("its read has landed", car[0].record[R_PENDING], 0);
+    two_fresh();
+    put(0, 0xF800);
+    set_pc_of(1, 5);
+    car[0].record[R_PENDING] = 1;
+    car[0].record[R_PENDING_ADDRESS + 1] = 9;
+    memcpy(record, car[0].record, sizeof record);
+    ENDS(turns, NO_STOP, NO_STOP, 1, 2, 0, 9, 8);
+    is("record changed", memcmp(car[0].record, record, sizeof record) != 0, 0);
+    from("reading 17: only a cycle that would execute the word");
+    two_fresh();
+    put(0, 0xF800);
+    car[0].record[R_MODE] = IN_HALT;
+    ENDS(turns, NO_STOP, NO_STOP, 2, 1, 0, 0, 8);
+    two_fresh();
+    put(3, 0xF800);
+    ENDS(only_0, NO_STOP, NO_STOP, 2, 2, 3, 0, 3);
+
+    from("02, P5: the run ends with the entry that stops the second car");
+    two_fresh();
+    put(0, 0xF800);
+    ENDS(turns, NO_STOP, NO_STOP, 1, 1, 0, 0, 2);
+    two_fresh();
+    put(0, 0xF800);
+    ENDS(twice_1, NO_STOP, NO_STOP, 1, 1, 0, 0, 3);
+    two_fresh();
+    put(7, 0xF800);
+    set_pc_of(1, 7);
+    ENDS(turns, 3, NO_STOP, 0, 1, 3, 7, 5);
+    from("02, P5: with one car stopped the run goes on to the script's end");
+    two_fresh();
+    ENDS(only_0, 1, NO_STOP, 0, 2, 1, 0, 3);
+    two_fresh();
+    put(0, 0xF800);
+    ENDS(only_1, NO_STOP, NO_STOP, 2, 1, 0, 0, 3);
+}
+
+static void a_stopped_car_takes_nothing(void)
+{
+    static const uint8_t after_stop[] = {0, CYCLE,  0, RESET_PIN, 0, PIN_A | 15, 0, BASE_PULSE,
+                                         0, CYCLE,  1, CYCLE,     0, SOUND_CLOCK, 0, WATCHDOG_PULSE};
+    static const uint8_t reset_of_both[] = {0, CYCLE, 0, RESET_PIN, 0, CYCLE, 1, RESET_PIN, 1, CYCLE};
+
+    from("02, P5: a stopped car takes no more entries, no reset either");
+    two_fresh();
+    car[0].memory[0x003] = 8;
+    set_pc_of(0, 6);
+    ENDS(after_stop, 7, NO_STOP, 0, 2, 7, 1, 8);
+    is("pins A", car[0].record[R_PIN_A], 0);
+    is("base counter", car[0].record[R_BASE_COUNTER], 0);
+    is("$003", car[0].memory[0x003], 8);
+    is("prescaler", car[0].record[R_T0_PRESCALER + 1], 1);
+    two_fresh();
+    put(6, 0xF800);
+    set_pc_of(0, 6);
+    set_pc_of(1, 6);
+    ENDS(reset_of_both, NO_STOP, NO_STOP, 1, 2, 6, 1, 5);
+}
+
+static void two_pictures(void)
+{
+    static const uint8_t one_each[] = {0, CYCLE, 1, CYCLE};
+    static const uint8_t only_0[] = {0, CYCLE, 0, CYCLE, 0, CYCLE};
+    static const uint8_t nothing[1] = {0};
+    static const uint8_t one_lamp[3] = {0x03, 0x48, 3};
+    static uint8_t memory_then[2][1024], record_then[2][45];
+
+    from("02, P5: pictures after an empty script");
+    two_fresh();
+    for (int at = 0; at < 2; at++)
+        car[at].memory[0x007] = 4;
+    car[0].memory[0x300] = 1;
+    car[1].memory[0x300] = 2;
+    car[1].memory[0x348] = 8;
+    for (int at = 0; at < 2; at++) {
+        memcpy(memory_then[at], car[at].memory, sizeof memory);
+        memcpy(record_then[at], car[at].record, sizeof record);
+    }
+    two_end(nothing, 0, 0, 0, (unsigned[]){2, 2}, (unsigned[]){0, 0}, 0);
+    for (int at = 0; at < 2; at++) {
+        is("memory changed", memcmp(car[at].memory, memory_then[at], sizeof memory) != 0, 0);
+        is("record changed", memcmp(car[at].record, record_then[at], sizeof record) != 0, 0);
+        is("beyond", car[at].picture[3], 0xEE);
+        is("beyond", car[at].picture[4], 0xEE);
+    }
+    is("car 0, lamp 0", car[0].picture[0], 1);
+    is("car 0, lamp 1", car[0].picture[1], 0);
+    is("car 0, lamp 2", car[0].picture[2], 0);
+    is("car 1, lamp 0", car[1].picture[0], 0);
+    is("car 1, lamp 1", car[1].picture[1], 1);
+    is("car 1, lamp 2", car[1].picture[2], 1);
+
+    from("01, Panel book: all 0 when LCDON is 0 or in STOP");
+    car[0].memory[0x007] = 3;
+    car[1].record[R_MODE] = IN_STOP;
+    is("answer", run_two(nothing, 0, 0, 0), 0);
+    is("LCDON 0", car[0].picture[0], 0);
+    is("STOP", car[1].picture[1], 0);
+
+    from("02, P5: the picture is that of the state in which the car ends");
+    two_fresh();
+    put(0, made(STA, 0x300, 0));
+    put(1, made(STA, 0x348, 0));
+    for (int at = 0; at < 2; at++) {
+        car[at].memory[0x007] = 4;
+        car[at].record[R_AC] = 15;
+    }
+    ENDS(one_each, NO_STOP, NO_STOP, 2, 2, 1, 1, 2);
+    is("car 0, lamp 1", car[0].picture[1], 1);
+    is("car 0, lamp 2", car[0].picture[2], 0);
+    is("car 1, lamp 1", car[1].picture[1], 1);
+    ENDS(only_0, NO_STOP, NO_STOP, 2, 2, 4, 1, 3);
+    is("car 0, lamp 2", car[0].picture[2], 1);
+    is("car 1, lamp 2", car[1].picture[2], 0);
+    from("02, P5: a stopped car's picture");
+    two_fresh();
+    put(0, made(STA, 0x300, 0));
+    put(1, made(STA, 0x348, 0));
+    put(2, 0xF800);
+    for (int at = 0; at < 2; at++) {
+        car[at].memory[0x007] = 4;
+        car[at].record[R_AC] = 15;
+    }
+    ENDS(only_0, 1, NO_STOP, 0, 2, 1, 0, 3);
+    is("car 0, lamp 0", car[0].picture[0], 1);
+    is("car 0, lamp 2", car[0].picture[2], 0);
+    is("car 1, lamp 0", car[1].picture[0], 0);
+    ENDS(only_0, NO_STOP, NO_STOP, 1, 2, 2, 0, 3);
+    is("in front of an unlisted word, lamp 2", car[0].picture[2], 1);
+
+    from("01, What comes back: bytes beyond what is written stay");
+    two_fresh();
+    lent_wiring = one_lamp;
+    lent_length.wiring = sizeof one_lamp;
+    is("room of its own size", run_two(nothing, 0, 0, 0), 0);
+    for (int at = 0; at < 2; at++)
+        for (int place_in = 0; place_in < 5; place_in++)
+            is("a picture's byte", car[at].picture[place_in], place_in == 0 ? 0 : 0xEE);
+}
+
+/* What comes back, held to a number and value, with every lent byte and out number as it was. */
+static void two_refused(const char *what, const uint8_t *script, size_t length, uint32_t number, uint64_t value)
+{
+    static uint8_t then[sizeof car];
+
+    memcpy(then, car, sizeof car);
+    is(what, run_two(script, length, 0, 0), number);
+    is("value", (long long)told, (long long)value);
+    is("a lent byte changed", memcmp(car, then, sizeof car) != 0, 0);
+    is("reason of car 0 is left", reason_of[0], 99);
+    is("reason of car 1 is left", reason_of[1], 99);
+    is("entries are left", (long long)entries_read, 99);
+}
+
+/* All refusals apply at first; each that was told is then mended. */
+static void two_refusals_in_order(void)
+{
+    static const uint8_t bad_lamps[9] = {0x03, 0x00, 0, 0x03, 0x00, 4, 0x03, 0x49, 3};
+    uint8_t script[] = {0, CYCLE, 2, CYCLE, 9, 0x50, 1, 0x04, 1};
+
+    from("02, P5: refusals in order; 01, lowest number first, 7 last");
+    two_fresh();
+    put(0, 0xF800);
+    lent_length.program = 8190;
+    lent_length.memory[0] = 1023;
+    lent_length.memory[1] = 1025;
+    car[0].memory[0x3FF] = 1;
+    car[1].memory[0x004] = 1;
+    lent_length.record[0] = 44;
+    car[1].record[R_AC] = 16;
+    lent_wiring = bad_lamps;
+    lent_length.wiring = 8;
+    lent_length.room[0] = 2;
+    lent_length.room[1] = 0;
+    two_refused("1", script, sizeof script, 1, 8190);
+    lent_length.program = 8192;
+    two_refused("2 of car 0", script, sizeof script, 2, 1023);
+    lent_length.memory[0] = 1024;
+    two_refused("2 of car 1", script, sizeof script, 2, 1025);
+    lent_length.memory[1] = 1024;
+    two_refused("3 of car 0", script, sizeof script, 3, 0x3FF);
+    car[0].memory[0x3FF] = 0;
+    two_refused("3 of car 1", script, sizeof script, 3, 0x004);
+    car[1].memory[0x004] = 0;
+    two_refused("4 of car 0", script, sizeof script, 4, 0);
+    lent_length.record[0] = 45;
+    two_refused("4 of car 1", script, sizeof script, 4, 0);
+    car[1].record[R_AC] = 15;
+    two_refused("5", script, sizeof script, 5, 5);
+    script[5] = CYCLE;
+    two_refused("5 further on", script, sizeof script, 5, 7);
+    script[7] = CYCLE;
+    two_refused("10", script, sizeof script, 10, 0);
+    lent_length.wiring = 9;
+    two_refused("11", script, sizeof script, 11, 2);
+    lent_wiring = lamps;
+    two_refused("27", script, sizeof script, 27, 2);
+    script[2] = 1;
+    two_refused("27 further on", script, sizeof script, 27, 4);
+    script[4] = 0;
+    two_refused("28", script, sizeof script, 28, 8);
+    two_refused("7 of car 0", script, sizeof script - 1, 7, 3);
+    lent_length.room[0] = 3;
+    two_refused("7 of car 1", script, sizeof script - 1, 7, 3);
+    lent_length.room[1] = 3;
+    is("done, in front of unlisted words", run_two(script, sizeof script - 1, 0, 0), 0);
+    is("reason of car 0", reason_of[0], 1);
+    is("reason of car 1", reason_of[1], 1);
+    is("entries", (long long)entries_read, 2);
+}
+
+static void a_machine_of_either_car(void)
+{
+    static const uint8_t nothing[1] = {0};
+
+    from("02, P5: 2, 3 and 4 of either car");
+    for (int at = 0; at < 2; at++) {
+        two_fresh();
+        lent_length.memory[at] = 0;
+        two_refused("no memory", nothing, 0, 2, 0);
+        two_fresh();
+        car[at].memory[0x170] = 1;
+        car[at].memory[0x007] = 8;
+        two_refused("a cell", nothing, 0, 3, 0x007);
+        two_fresh();
+        lent_length.record[at] = 0;
+        two_refused("no record", nothing, 0, 4, 0);
+        two_fresh();
+        lent_length.record[at] = 44;
+        two_refused("a record of 44 bytes", nothing, 0, 4, 0);
+        two_fresh();
+        car[at].record[R_WATCHDOG] = car[at].record[R_WATCHDOG + 1] = 0;
+        two_refused("a watchdog count of 0", nothing, 0, 4, 0);
+    }
+    from("02, P5: at equal numbers car 0 first");
+    two_fresh();
+    lent_length.memory[0] = 1025;
+    lent_length.memory[1] = 7;
+    two_refused("2 of both", nothing, 0, 2, 1025);
+    two_fresh();
+    car[0].memory[0x170] = 1;
+    car[1].memory[0x007] = 8;
+    two_refused("3 of both", nothing, 0, 3, 0x170);
+    from("02, P5: a lower number of car 1 before a higher one of car 0");
+    two_fresh();
+    car[0].memory[0x170] = 1;
+    lent_length.memory[1] = 7;
+    two_refused("2 of car 1, 3 of car 0", nothing, 0, 2, 7);
+    two_fresh();
+    car[0].record[R_AC] = 16;
+    car[1].memory[0x007] = 8;
+    two_refused("3 of car 1, 4 of car 0", nothing, 0, 3, 7);
+}
+
+static void two_car_scripts_refused(void)
+{
+    static const uint8_t lone_first[] = {0}, lone_second[] = {1}, lone_above[] = {2}, lone_event[] = {0x50};
+    static const uint8_t cut[] = {0, CYCLE, 1, CYCLE, 1};
+    static const uint8_t cut_above[] = {0, CYCLE, 1, CYCLE, 2};
+    static const uint8_t cut_and_car[] = {0, CYCLE, 3, CYCLE, 1};
+    static const uint8_t car_then_event[] = {7, CYCLE, 0, 0x50};
+    static const uint8_t swapped[] = {CYCLE, 0, BASE_PULSE, 1};
+    uint8_t script[] = {0, CYCLE, 1, CYCLE, 0, CYCLE};
+
+    from("02, P5: 28, the place of the lone car");
+    two_fresh();
+    two_refused("a script of one byte", lone_first, 1, 28, 0);
+    two_refused("a script of one byte", lone_second, 1, 28, 0);
+    two_refused("a lone byte at the end", cut, sizeof cut, 28, 4);
+    from("02, P5: 27 before 28, a lone byte above 1 too");
+    two_refused("a script of one byte", lone_above, 1, 27, 0);
+    two_refused("a script of one byte, no event", lone_event, 1, 27, 0);
+    two_refused("a lone byte at the end", cut_above, sizeof cut_above, 27, 4);
+    two_refused("a car before it", cut_and_car, sizeof cut_and_car, 27, 2);
+    from("02, P5: the lowest number wins wherever it stands");
+    two_refused("a car, then an event", car_then_event, sizeof car_then_event, 5, 3);
+    from("02, P5: the car comes first");
+    is("0 and 1 are events too", run_two(swapped, sizeof swapped, NO_STOP, NO_STOP), 0);
+    is("PC of car 0", pc_of(0), 1);
+    from("01, Events; 02, P5: every event byte and every car byte");
+    for (unsigned byte = 0; byte < 256; byte++)
+        for (size_t entry = 0; entry < 3; entry++) {
+            bool known = byte <= 3 || byte == 5 || (byte >= 0x10 && byte <= 0x4F);
+
+            two_fresh();
+            script[2 * entry + 1] = (uint8_t)byte;
+            if (known)
+                is("a known event", run_two(script, sizeof script, NO_STOP, NO_STOP), 0);
+            else
+                two_refused("an unknown event", script, sizeof script, 5, 2 * entry + 1);
+            script[2 * entry + 1] = CYCLE;
+            two_fresh();
+            script[2 * entry] = (uint8_t)byte;
+            if (byte < 2)
+                is("a car", run_two(script, sizeof script, NO_STOP, NO_STOP), 0);
+            else
+                two_refused("no car", script, sizeof script, 27, 2 * entry);
+            script[2 * entry] = entry == 1;
+        }
+    from("02, P5: the whole script is judged, though both cars would stop before");
+    two_fresh();
+    put(0, 0xF800);
+    script[5] = 0x50;
+    two_refused("an event", script, sizeof script, 5, 5);
+    script[5] = CYCLE;
+    script[4] = 2;
+    two_refused("a car", script, sizeof script, 27, 4);
+    script[4] = 1;
+    two_refused("a cut entry", script, sizeof script - 1, 28, 4);
+}
+
+static void two_wirings_and_rooms(void)
+{
+    static const uint8_t nothing[1] = {0};
+    static const uint8_t bad_bit[9] = {0x03, 0x00, 0, 0x03, 0x00, 4, 0x03, 0x48, 3};
+    static const uint8_t not_display[9] = {0x03, 0x00, 0, 0x03, 0x00, 1, 0x03, 0x49, 3};
+    static uint8_t many[723];
+
+    from("02, P5: 10 and 11, the wiring as the picture call takes it");
+    two_fresh();
+    for (int element = 0; element < 241; element++)
+        many[3 * element] = 3;
+    lent_wiring = many;
+    lent_length.wiring = 0;
+    two_refused("no element", nothing, 0, 10, 0);
+    lent_length.wiring = 4;
+    two_refused("not of threes", nothing, 0, 10, 0);
+    lent_length.wiring = 723;
+    two_refused("241 elements", nothing, 0, 10, 0);
+    lent_length.wiring = 9;
+    lent_wiring = bad_bit;
+    two_refused("a bit", nothing, 0, 11, 2);
+    lent_wiring = not_display;
+    two_refused("a cell", nothing, 0, 11, 2);
+    from("02, P5: 7, the elements of the wiring");
+    lent_wiring = many;
+    lent_length.wiring = 720;
+    two_refused("240 elements", nothing, 0, 7, 240);
+    two_fresh();
+    lent_length.room[1] = 2;
+    two_refused("of car 1 alone", nothing, 0, 7, 3);
+    lent_length.room[0] = 0;
+    lent_length.room[1] = 3;
+    two_refused("of car 0 alone", nothing, 0, 7, 3);
+    lent_length.room[0] = 3;
+    is("room enough", run_two(nothing, 0, 0, 0), 0);
+}
+
+static void two_cars(void)
+{
+    each_entry_has_its_car();
+    each_car_stops();
+    a_stopped_car_takes_nothing();
+    two_pictures();
+    two_refusals_in_order();
+    a_machine_of_either_car();
+    two_car_scripts_refused();
+    two_wirings_and_rooms();
+}
+
 /* ---- Many programs ---- */
 
 static uint32_t seed = 1;
@@ -3272,6 +3800,71 @@ static void many_programs(void)
     is("states that can't be lent again", not_lendable, 0);
 }
 
+/* Two cars are their steps one by one, each its own, however their entries are shuffled (02, P5). */
+static void many_pairs(void)
+{
+    enum { PROGRAMS = 300, ENTRIES = 400 };
+    static const uint32_t unstopped = 2;
+    uint8_t script[2 * ENTRIES], picture[5];
+    unsigned differ = 0, wrong_count = 0, wrong_reason = 0, refused = 0;
+
+    from("02, P5: what a car comes to is what its own entries make of it");
+    for (int programs = 0; programs < PROGRAMS; programs++) {
+        uint32_t stop[2] = {any(4) ? NO_STOP : any(4096), any(4) ? NO_STOP : any(4096)};
+        uint32_t wanted[2] = {unstopped, unstopped};
+        uint8_t memory_by_steps[2][1024], record_by_steps[2][45];
+        uint64_t entries = 0, count;
+        unsigned share = 1 + any(7);
+
+        two_fresh();
+        for (unsigned address = 0; address < 4096; address++)
+            put(address, any_word());
+        for (int at = 0; at < ENTRIES; at++) {
+            unsigned kind = any(16);
+
+            script[2 * at] = any(8) < share;
+            script[2 * at + 1] = kind < 12 ? CYCLE : kind < 13 ? SOUND_CLOCK : any(30) ? (uint8_t)(0x10 + any(0x40))
+                                 : RESET_PIN;
+        }
+        for (int at = 0; at < 2; at++) {
+            for (unsigned address = 0x300; address <= 0x348; address++)
+                car[at].memory[address] = (uint8_t)any(16);
+            car[at].memory[0x000] = (uint8_t)any(16);
+            car[at].memory[0x007] = (uint8_t)any(8);
+            set_pc_of(at, any(4096));
+            memcpy(memory_by_steps[at], car[at].memory, sizeof memory);
+            memcpy(record_by_steps[at], car[at].record, sizeof record);
+        }
+        while (entries < ENTRIES && (wanted[0] == unstopped || wanted[1] == unstopped)) {
+            int at = script[2 * entries];
+            uint8_t event = script[2 * entries + 1];
+
+            entries++;
+            if (wanted[at] != unstopped)
+                continue;
+            if (second_step(program, 8192, memory_by_steps[at], 1024, record_by_steps[at], 45, event, &told) == 6)
+                wanted[at] = 1;
+            else if (event == CYCLE && (uint32_t)(record_by_steps[at][0] << 8 | record_by_steps[at][1]) == stop[at])
+                wanted[at] = 0;
+        }
+        refused += run_two(script, sizeof script, stop[0], stop[1]) != 0;
+        wrong_count += entries_read != entries;
+        for (int at = 0; at < 2; at++) {
+            memset(picture, 0xEE, sizeof picture);
+            (void)second_picture(memory_by_steps[at], 1024, record_by_steps[at], 45, lamps, sizeof lamps, picture, 5,
+                                 &count, &told);
+            wrong_reason += reason_of[at] != wanted[at];
+            differ += memcmp(car[at].memory, memory_by_steps[at], sizeof memory) != 0
+                      || memcmp(car[at].record, record_by_steps[at], sizeof record) != 0
+                      || memcmp(car[at].picture, picture, sizeof picture) != 0;
+        }
+    }
+    is("runs refused", refused, 0);
+    is("cars that end in another state or picture than by their steps", differ, 0);
+    is("cars with another reason", wrong_reason, 0);
+    is("runs with another count", wrong_count, 0);
+}
+
 int main(void)
 {
     twelve_numbers();
@@ -3301,7 +3894,9 @@ int main(void)
     pictures();
     books();
     listings();
+    two_cars();
     many_programs();
+    many_pairs();
     printf("%lu passed, %lu failed\n", passed, failed);
     return failed == 0 ? EXIT_SUCCESS : EXIT_FAILURE;
 }

@@ -1,7 +1,7 @@
 /* Compares galhoveia with the second emulator over the C boundary: answers, values, and every lent byte. Two parts, so
    that they can run side by side: `calls` has every word, refusal, panel, list and listing, `runs` the random events,
-   the quiet stretches, what single steps change, and every edge of a port's pins. Prints its progress and, as its last
-   line, how many comparisons passed and failed. */
+   the quiet stretches, what single steps change, every edge of a port's pins, and two cars over one program. Prints its
+   progress and, as its last line, how many comparisons passed and failed. */
 #include "compare.h"
 #include "support.h"
 
@@ -14,12 +14,12 @@
 /* The refusals that each call can answer, 0 (done) among them (01, What comes back; the header). */
 static const struct {
     enum call call;
-    int numbers[8]; /* ended by -1 */
+    int numbers[12]; /* ended by -1 */
 } can_answer[CALLS] = {
     {STEP, {0, 1, 2, 3, 4, 5, 6, -1}}, {RUN, {0, 1, 2, 3, 4, 5, 6, -1}}, {LIST, {0, 1, 7, 8, -1}},
     {LEVEL, {0, 2, 3, 9, 10, 11, -1}}, {FRESH, {0, 2, 4, 12, -1}},       {PICTURE, {0, 2, 3, 4, 7, 10, 11, -1}},
     {BOOK_READ, {0, 10, 11, -1}},      {BOOK_WRITE, {0, 7, 10, 11, -1}},     {LISTING_WRITE, {0, 1, 7, -1}},
-    {LISTING_READ, {0, 7, 26, -1}},
+    {LISTING_READ, {0, 7, 26, -1}},    {RUN_TWO, {0, 1, 2, 3, 4, 5, 7, 10, 11, 27, 28, -1}},
 };
 
 /* Every refusal in every call that can answer it, and no other. */
@@ -109,6 +109,8 @@ int main(int argc, char **argv)
         compare_lists(&plan);
         progress("  (calls: %.1f s)", seconds_since(&start));
         compare_listings(&plan);
+        progress("  (calls: %.1f s)", seconds_since(&start));
+        compare_two_refusals();
         check_reached();
     } else {
         compare_runs(&plan);
@@ -116,6 +118,8 @@ int main(int argc, char **argv)
         progress("  (runs: %.1f s)", seconds_since(&start));
         compare_changes(&plan);
         compare_pins();
+        progress("  (runs: %.1f s)", seconds_since(&start));
+        compare_two(&plan);
     }
     progress("  (%s: %.1f s)", argv[1], seconds_since(&start));
     printf("%lu passed, %lu failed\n", passed, failed);

@@ -5,7 +5,8 @@
 #include <stdint.h>
 
 struct plan {
-    uint64_t events;      /* at least so many in random runs, a fifth of them in quiet stretches, a tenth by steps */
+    uint64_t events;      /* at least so many in random runs, a fifth of them in quiet stretches, a tenth by steps,
+                             four fifths as entries of two cars */
     unsigned machines;    /* for each of the 65,536 words */
     unsigned cell_stride; /* the lists of one in so many cells are asked for; 1 for all */
     unsigned text_stride; /* of the listings at random and the damaged ones, one in so many is tried; 1 for all */
@@ -18,9 +19,11 @@ void compare_runs(const struct plan *plan);
 void compare_stretches(const struct plan *plan);
 void compare_changes(const struct plan *plan);
 void compare_pins(void);
+void compare_two(const struct plan *plan);
 void compare_refusals(void);
 void compare_lists(const struct plan *plan);
 void compare_panel(void);
 void compare_listings(const struct plan *plan);
+void compare_two_refusals(void);
 
 #endif

@@ -5,10 +5,7 @@
 #include <stdio.h>
 #include <string.h>
 
-enum {
-    CONTENTS = 16, ELEMENTS_MOST = 240, WIRING_MOST = 3 * ELEMENTS_MOST, LEVEL_BYTES = 5,
-    BOOK_MOST = CONTENTS + PROGRAM_BYTES + WIRING_MOST + LEVEL_BYTES
-};
+enum { CONTENTS = 16, LEVEL_BYTES = 5, BOOK_MOST = CONTENTS + PROGRAM_BYTES + WIRING_MOST + LEVEL_BYTES };
 
 static uint8_t program[PROGRAM_BYTES];
 static uint8_t long_area[2 * PROGRAM_BYTES];
@@ -21,14 +18,6 @@ static unsigned any_askable(void)
         cell = any(0x370);
     while (!is_askable(cell));
     return cell;
-}
-
-static void random_wiring(uint8_t *body, unsigned elements)
-{
-    for (unsigned element = 0; element < elements; element++) {
-        set_two(body + 3 * element, 0x300 + any(0x49));
-        body[3 * element + 2] = (uint8_t)any(4);
-    }
 }
 
 static bool is_good_wiring(const uint8_t *body, size_t length)

@@ -1,7 +1,9 @@
-/* The header as a C program meets it: included twice, its constants in their places, and its example at work. */
+/* The header as a C program meets it: included twice, its constants in their places, its example and a run of two cars
+   at work. */
 #include "../desk/galhoveia.h"
 #include "../desk/galhoveia.h"
 
+#include <stdbool.h>
 #include <stdio.h>
 
 _Static_assert(GALHOVEIA_PROGRAM_BYTES == 2 * GALHOVEIA_WORDS, "words have two bytes");
@@ -18,7 +20,7 @@ _Static_assert(GALHOVEIA_BOOK_BYTES_MOST == 16 + GALHOVEIA_PROGRAM_BYTES
                + GALHOVEIA_ELEMENTS_MOST * GALHOVEIA_ELEMENT_BYTES + GALHOVEIA_LEVEL_BYTES, "the longest book");
 _Static_assert(GALHOVEIA_LISTING_BYTES_MOST == GALHOVEIA_WORDS * GALHOVEIA_LINE_BYTES_MOST, "the longest listing");
 
-int main(void)
+static bool example(void)
 {
     static uint8_t program[GALHOVEIA_PROGRAM_BYTES];
     static const uint8_t level_body[5] = {0x00, 0x20, 0x00, 0x21, 2};
@@ -39,10 +41,42 @@ int main(void)
         printf("level %ld after %llu events\n", (long)level, (unsigned long long)events);
     else
         printf("refused by %lu with %llu\n", (unsigned long)refusal, (unsigned long long)value);
-    if (refusal != GALHOVEIA_DONE || level != -2 || events != 100 || reason != GALHOVEIA_AT_END) {
-        printf("0 passed, 1 failed\n");
-        return 1;
-    }
-    printf("1 passed, 0 failed\n");
-    return 0;
+    return refusal == GALHOVEIA_DONE && level == -2 && events == 100 && reason == GALHOVEIA_AT_END;
+}
+
+/* Car 0 stops at address 1, so that its reset is passed over; car 1 goes on to the script's end. */
+static bool two_cars(void)
+{
+    static uint8_t program[GALHOVEIA_PROGRAM_BYTES];
+    static const uint8_t wiring[GALHOVEIA_ELEMENT_BYTES] = {0x03, 0x00, 0};
+    static const uint8_t script[] = {0, GALHOVEIA_EVENT_CYCLE, 0, GALHOVEIA_EVENT_RESET,
+                                     1, GALHOVEIA_EVENT_CYCLE, 1, GALHOVEIA_EVENT_CYCLE};
+    uint8_t memory[2][GALHOVEIA_MEMORY_BYTES], record[2][GALHOVEIA_RECORD_BYTES], picture[2][1] = {{9}, {9}};
+    uint64_t value, entries = 0;
+    uint32_t refusal = GALHOVEIA_DONE, reason[2] = {9, 9};
+
+    for (int car = 0; car < 2 && refusal == GALHOVEIA_DONE; car++)
+        refusal = galhoveia_fresh(memory[car], sizeof memory[car], record[car], sizeof record[car], 0, &value);
+    if (refusal == GALHOVEIA_DONE)
+        refusal = galhoveia_run_two(program, sizeof program, wiring, sizeof wiring, memory[0], sizeof memory[0],
+                                    record[0], sizeof record[0], picture[0], sizeof picture[0], memory[1],
+                                    sizeof memory[1], record[1], sizeof record[1], picture[1], sizeof picture[1],
+                                    script, sizeof script, 1, GALHOVEIA_NO_STOP, &reason[0], &reason[1], &entries,
+                                    &value);
+    if (refusal == GALHOVEIA_DONE)
+        printf("two cars after %llu entries\n", (unsigned long long)entries);
+    else
+        printf("two cars refused by %lu with %llu\n", (unsigned long)refusal, (unsigned long long)value);
+    return refusal == GALHOVEIA_DONE && entries == 4 && reason[0] == GALHOVEIA_AT_ADDRESS
+           && reason[1] == GALHOVEIA_AT_END && record[0][GALHOVEIA_RECORD_PC + 1] == 1
+           && record[1][GALHOVEIA_RECORD_PC + 1] == 2 && picture[0][0] == 0 && picture[1][0] == 0;
+}
+
+int main(void)
+{
+    int passed = example();
+
+    passed += two_cars();
+    printf("%d passed, %d failed\n", passed, 2 - passed);
+    return passed == 2 ? 0 : 1;
 }

@@ -1,6 +1,6 @@
-/* Well-formed machines, programs and scripts made at random, drawn so that the rare things happen often: interrupts,
-   wakes, pending reads, overflows, watchdog resets, tones that turn, Timer0's counter read half by half, stores through
-   the pointer at registers. */
+/* Well-formed machines, programs, scripts and wirings made at random, drawn so that the rare things happen often:
+   interrupts, wakes, pending reads, overflows, watchdog resets, tones that turn, Timer0's counter read half by half,
+   stores through the pointer at registers. */
 #include "support.h"
 
 #include <string.h>
@@ -458,5 +458,15 @@ void random_script(uint8_t *script, size_t length, enum mix mix)
             place = sound_clocks(script, place, length);
         else
             script[place] = CYCLE;
+    }
+}
+
+/* ---- Wirings ---- */
+
+void random_wiring(uint8_t *body, unsigned elements)
+{
+    for (unsigned element = 0; element < elements; element++) {
+        set_two(body + 3 * element, 0x300 + any(0x49));
+        body[3 * element + 2] = (uint8_t)any(4);
     }
 }

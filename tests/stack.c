@@ -11,23 +11,44 @@
 #include <string.h>
 #include <ucontext.h>
 
-enum { TURNS = 3000, EVENTS = 500, DAMAGED_ONE_IN = 16, ELEMENTS_MOST = GALHOVEIA_ELEMENTS_MOST };
+enum { TURNS = 3000, EVENTS = 500, DAMAGED_ONE_IN = 16 };
 
 /* ---- What is lent ---- */
 
-static uint8_t program[PROGRAM_BYTES], script[EVENTS], wiring[3 * ELEMENTS_MOST], panel_level[GALHOVEIA_LEVEL_BYTES];
+static uint8_t program[PROGRAM_BYTES], script[EVENTS], wiring[WIRING_MOST], panel_level[GALHOVEIA_LEVEL_BYTES];
 static uint8_t addresses[PROGRAM_BYTES], picture[ELEMENTS_MOST], words[PROGRAM_BYTES];
 static uint8_t book[GALHOVEIA_BOOK_BYTES_MOST], text[LISTING_BYTES_MOST];
-static struct machine machine;
-static size_t program_length, memory_length, record_length, wiring_length;
+static uint8_t entries[2 * EVENTS + 1], pictures[CARS][ELEMENTS_MOST];
+static struct machine machine, cars[CARS];
+static size_t program_length, memory_length, record_length, wiring_length, entries_length, room;
 static uint8_t event;
-static uint32_t options, cell, reason;
+static uint32_t options, cell, reason, reasons[CARS];
 static int32_t level;
 static uint64_t book_length, text_length, part[6], count, events, value;
 
 static bool damaged(void)
 {
     return any(DAMAGED_ONE_IN) == 0;
+}
+
+static void draw_cars(enum mix mix)
+{
+    for (int car = 0; car < CARS; car++) {
+        random_machine(&cars[car]);
+        if (damaged())
+            cars[car].memory[any(MEMORY_BYTES)] ^= (uint8_t)(1 + any(255));
+        if (damaged())
+            cars[car].record[any(RECORD_BYTES)] ^= (uint8_t)(1 + any(255));
+    }
+    random_script(script, EVENTS, mix);
+    for (unsigned entry = 0; entry < EVENTS; entry++) {
+        entries[2 * entry] = (uint8_t)any(CARS);
+        entries[2 * entry + 1] = script[entry];
+    }
+    if (damaged())
+        entries[any(2 * EVENTS)] = (uint8_t)any(256);
+    entries_length = 2 * EVENTS + damaged();
+    room = ELEMENTS_MOST - (damaged() ? any(ELEMENTS_MOST) : 0);
 }
 
 static void draw(enum mix mix)
@@ -78,6 +99,14 @@ static void run(void)
 {
     CHOSEN(run)(program, program_length, machine.memory, memory_length, machine.record, record_length, script, EVENTS,
                 cell, &reason, &events, &value);
+}
+
+static void run_two(void)
+{
+    CHOSEN(run_two)(program, program_length, wiring, wiring_length, cars[0].memory, memory_length, cars[0].record,
+                    record_length, pictures[0], ELEMENTS_MOST, cars[1].memory, MEMORY_BYTES, cars[1].record,
+                    RECORD_BYTES, pictures[1], room, entries, entries_length, cell, options, &reasons[0], &reasons[1],
+                    &count, &value);
 }
 
 static void step(void)
@@ -132,7 +161,7 @@ static struct {
 } calls[] = {
     CALL(step, step), CALL(run, run), CALL(list, list), CALL(level, level_read), CALL(picture, picture_drawn),
     CALL(book_write, book_write), CALL(book_read, book_read), CALL(listing_write, listing_write),
-    CALL(listing_read, listing_read), CALL(fresh, fresh),
+    CALL(listing_read, listing_read), CALL(fresh, fresh), CALL(run_two, run_two),
 };
 
 enum { CALLED = sizeof calls / sizeof calls[0] };
@@ -189,6 +218,7 @@ int main(void)
     seed_random(6754);
     for (unsigned turn = 0; turn < TURNS; turn++) {
         draw((enum mix)(turn % MIXES));
+        draw_cars((enum mix)(turn % MIXES));
         for (unsigned at = 0; at < CALLED; at++) {
             size_t above = (taken(calls[at].make, nothing) + 7) / 8 * 8 - RETURN_ADDRESS;
             size_t bytes = taken(calls[at].make, calls[at].function) - above;

@@ -17,6 +17,18 @@ uint32_t galhoveia_run(const uint8_t *program, size_t program_len, uint8_t *memo
                       events, value);
 }
 
+uint32_t galhoveia_run_two(const uint8_t *program, size_t program_len, const uint8_t *wiring, size_t wiring_len,
+                           uint8_t *memory0, size_t memory0_len, uint8_t *record0, size_t record0_len,
+                           uint8_t *picture0, size_t room0, uint8_t *memory1, size_t memory1_len, uint8_t *record1,
+                           size_t record1_len, uint8_t *picture1, size_t room1, const uint8_t *script,
+                           size_t script_len, uint32_t stop0, uint32_t stop1, uint32_t *reason0, uint32_t *reason1,
+                           uint64_t *entries, uint64_t *value)
+{
+    return second_run_two(program, program_len, wiring, wiring_len, memory0, memory0_len, record0, record0_len,
+                          picture0, room0, memory1, memory1_len, record1, record1_len, picture1, room1, script,
+                          script_len, stop0, stop1, reason0, reason1, entries, value);
+}
+
 uint32_t galhoveia_list(const uint8_t *program, size_t program_len, uint32_t cell, uint8_t *addresses, size_t room,
                         uint64_t *count, uint64_t *value)
 {

@@ -1,79 +1,23 @@
 /* Every call made on both emulators with the same lent bytes. */
-#define _DEFAULT_SOURCE
 #include "support.h"
+
+#include "lending.h"
 
 #include "../desk/galhoveia.h"
 #include "../second/second.h"
 
-#include <stdio.h>
-#include <stdlib.h>
 #include <string.h>
-#include <sys/mman.h>
-#include <unistd.h>
 
-/* ---- Lending ---- */
-
-/* Each lent area of each side lies at the end of its own pages, with bytes of a known pattern before it and a page
-   that cannot be touched after it: a callee that reads or writes past the length it was given dies on the spot. */
-enum side { GALHOVEIA, SECOND, SIDES };
-enum slot { SLOT_PROGRAM, SLOT_MEMORY, SLOT_RECORD, SLOT_SCRIPT, SLOT_BODY, SLOT_OTHER_BODY, SLOT_OUTPUT, SLOTS };
-enum { AREA = 1 << 20, BEFORE = 64, BEFORE_PATTERN = 0x5A };
-
-static uint8_t *area_end[SIDES][SLOTS];
-
-static uint8_t *end_of(enum side side, enum slot slot)
-{
-    if (area_end[side][slot] == NULL) {
-        size_t page = (size_t)sysconf(_SC_PAGESIZE);
-        uint8_t *area = mmap(NULL, AREA + page, PROT_READ | PROT_WRITE, MAP_PRIVATE | MAP_ANONYMOUS, -1, 0);
-
-        if (area == MAP_FAILED || mprotect(area + AREA, page, PROT_NONE) != 0) {
-            perror("compare: no memory to lend");
-            exit(EXIT_FAILURE);
-        }
-        area_end[side][slot] = area + AREA;
-    }
-    return area_end[side][slot];
-}
-
-static uint8_t *lend(enum side side, enum slot slot, struct lent lent)
-{
-    uint8_t *at;
-
-    if (lent.length > AREA - BEFORE) {
-        printf("a case lends more than there is\n");
-        exit(EXIT_FAILURE);
-    }
-    at = end_of(side, slot) - lent.length;
-    memset(at - BEFORE, BEFORE_PATTERN, BEFORE);
-    memcpy(at, lent.bytes, lent.length);
-    return at;
-}
-
-static bool is_as_lent(enum side side, enum slot slot, struct lent lent)
-{
-    return memcmp(end_of(side, slot) - lent.length, lent.bytes, lent.length) == 0;
-}
-
-static bool is_whole_before(enum side side, enum slot slot, size_t length)
-{
-    static uint8_t pattern[BEFORE];
-
-    memset(pattern, BEFORE_PATTERN, BEFORE);
-    return memcmp(end_of(side, slot) - length - BEFORE, pattern, BEFORE) == 0;
-}
-
-/* ---- Pairs ---- */
-
-const char *const call_name[CALLS] = {"step",    "run",       "list",       "level",         "fresh",
-                                      "picture", "book_read", "book_write", "listing_write", "listing_read"};
+const char *const call_name[CALLS] = {"step",      "run",        "list",          "level",        "fresh",  "picture",
+                                      "book_read", "book_write", "listing_write", "listing_read", "run_two"};
 unsigned long reached[CALLS][REFUSALS];
 struct after after;
 
 /* Out values start with these, so that one that was not to be written can be told. */
 static const struct after untouched = {
     UINT64_C(0xA1A2A3A4A5A6A7A8), 0xB1B2B3B4, UINT64_C(0xC1C2C3C4C5C6C7C8), -0x1D2D3D4D, UINT64_C(0xE1E2E3E4E5E6E7E8),
-    {11, 22, 33, 44, 55, 66}, NULL, NULL, NULL};
+    {11, 22, 33, 44, 55, 66}, {0xF1F2F3F4, 0xF5F6F7F8}, UINT64_C(0xD1D2D3D4D5D6D7D8), NULL, NULL, NULL,
+    {NULL, NULL}, {NULL, NULL}, {NULL, NULL}};
 
 struct outcome {
     uint32_t answer;
@@ -83,29 +27,9 @@ struct outcome {
 static bool same_numbers(const struct after *left, const struct after *right)
 {
     return left->reason == right->reason && left->events == right->events && left->level == right->level
-           && left->count == right->count && memcmp(left->part, right->part, sizeof left->part) == 0;
-}
-
-/* One lent area after both calls. */
-static void compare_area(enum call call, const char *area, enum slot slot, struct lent lent, bool may_change)
-{
-    const uint8_t *left = end_of(GALHOVEIA, slot) - lent.length;
-    const uint8_t *right = end_of(SECOND, slot) - lent.length;
-    size_t at = 0;
-
-    check(is_whole_before(GALHOVEIA, slot, lent.length), "%s writes before its %s", call_name[call], area);
-    check(is_whole_before(SECOND, slot, lent.length), "second %s writes before its %s", call_name[call], area);
-    if (memcmp(left, right, lent.length) != 0)
-        while (left[at] == right[at])
-            at++;
-    else
-        at = lent.length;
-    check(at == lent.length, "%s: %s differs at %zu: %u against %u", call_name[call], area, at,
-          at < lent.length ? left[at] : 0, at < lent.length ? right[at] : 0);
-    if (!may_change) {
-        check(is_as_lent(GALHOVEIA, slot, lent), "%s changes its %s", call_name[call], area);
-        check(is_as_lent(SECOND, slot, lent), "second %s changes its %s", call_name[call], area);
-    }
+           && left->count == right->count && memcmp(left->part, right->part, sizeof left->part) == 0
+           && left->reason_of[0] == right->reason_of[0] && left->reason_of[1] == right->reason_of[1]
+           && left->entries == right->entries;
 }
 
 /* Whether the call may have changed what it was lent for writing. */
@@ -130,15 +54,6 @@ static uint32_t conclude(enum call call, const struct outcome outcome[SIDES])
         reached[call][left->answer]++;
     after = left->out;
     return left->answer;
-}
-
-/* Where each side holds what it was lent. */
-static uint8_t *held[SIDES][SLOTS];
-
-static void give(enum slot slot, struct lent lent)
-{
-    for (int side = 0; side < SIDES; side++)
-        held[side][slot] = lend(side, slot, lent);
 }
 
 uint32_t pair_step(struct lent program, struct lent memory, struct lent record, uint8_t event)
@@ -357,6 +272,57 @@ uint32_t pair_listing_read(struct lent text, struct lent output)
     compare_area(LISTING_READ, "program", SLOT_OUTPUT, output, may_write(LISTING_READ, answer));
     after.output = held[GALHOVEIA][SLOT_OUTPUT];
     return answer;
+}
+
+/* The places of each car's memory, record and picture. */
+static const enum slot slot_of[CARS][3] = {{SLOT_MEMORY, SLOT_RECORD, SLOT_OUTPUT},
+                                           {SLOT_OTHER_MEMORY, SLOT_OTHER_RECORD, SLOT_OTHER_OUTPUT}};
+
+static void run_two_on(enum side side, struct lent program, struct lent wiring, const struct lent_car car[CARS],
+                       struct lent script, struct outcome *outcome)
+{
+    static __typeof__(galhoveia_run_two) *const run_two[SIDES] = {galhoveia_run_two, second_run_two};
+    uint8_t *const *at = held[side];
+    struct after *out = &outcome->out;
+
+    outcome->answer =
+        run_two[side](at[SLOT_PROGRAM], program.length, at[SLOT_BODY], wiring.length,
+                      at[SLOT_MEMORY], car[0].memory.length, at[SLOT_RECORD], car[0].record.length,
+                      at[SLOT_OUTPUT], car[0].picture.length,
+                      at[SLOT_OTHER_MEMORY], car[1].memory.length, at[SLOT_OTHER_RECORD], car[1].record.length,
+                      at[SLOT_OTHER_OUTPUT], car[1].picture.length,
+                      at[SLOT_SCRIPT], script.length, car[0].stop, car[1].stop,
+                      &out->reason_of[0], &out->reason_of[1], &out->entries, &out->value);
+}
+
+uint32_t pair_run_two(struct lent program, struct lent wiring, const struct lent_car car[CARS], struct lent script)
+{
+    struct outcome outcome[SIDES] = {{0, untouched}, {0, untouched}};
+    bool done;
+
+    give(SLOT_PROGRAM, program);
+    give(SLOT_BODY, wiring);
+    give(SLOT_SCRIPT, script);
+    for (int at = 0; at < CARS; at++) {
+        give(slot_of[at][0], car[at].memory);
+        give(slot_of[at][1], car[at].record);
+        give(slot_of[at][2], car[at].picture);
+    }
+    for (int side = 0; side < SIDES; side++)
+        run_two_on(side, program, wiring, car, script, &outcome[side]);
+    done = may_write(RUN_TWO, conclude(RUN_TWO, outcome));
+    compare_area(RUN_TWO, "program", SLOT_PROGRAM, program, false);
+    compare_area(RUN_TWO, "wiring", SLOT_BODY, wiring, false);
+    compare_area(RUN_TWO, "script", SLOT_SCRIPT, script, false);
+    for (int at = 0; at < CARS; at++) {
+        compare_area(RUN_TWO, at == 0 ? "memory 0" : "memory 1", slot_of[at][0], car[at].memory, done);
+        compare_area(RUN_TWO, at == 0 ? "record 0" : "record 1", slot_of[at][1], car[at].record, done);
+        compare_area(RUN_TWO, at == 0 ? "picture 0" : "picture 1", slot_of[at][2], car[at].picture, done);
+        after.memory_of[at] = held[GALHOVEIA][slot_of[at][0]];
+        after.record_of[at] = held[GALHOVEIA][slot_of[at][1]];
+        after.picture_of[at] = held[GALHOVEIA][slot_of[at][2]];
+    }
+    return outcome[GALHOVEIA].answer;
 }
 
 void expect(const char *what, uint32_t answer, uint32_t number, uint64_t value)

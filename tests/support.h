@@ -8,6 +8,7 @@
 #include <stdint.h>
 
 enum { PROGRAM_BYTES = 8192, MEMORY_BYTES = 1024, RECORD_BYTES = 45, WORDS = 4096, NO_STOP = 4096 };
+enum { ELEMENTS_MOST = 240, WIRING_MOST = 3 * ELEMENTS_MOST };
 enum { LINE_BYTES_MOST = 21, LISTING_BYTES_MOST = WORDS * LINE_BYTES_MOST };
 
 /* Where each field of the record begins (01, What is lent; 02, P1 and P2); channel 2 stands behind channel 1. */
@@ -84,6 +85,7 @@ enum mix { MIX_BUSY, MIX_TIMERS, MIX_ASLEEP, MIX_READS, MIX_NESTED, MIX_ANY, MIX
 
 void random_program(uint8_t program[PROGRAM_BYTES], enum mix mix);
 void random_script(uint8_t *script, size_t length, enum mix mix);
+void random_wiring(uint8_t *body, unsigned elements);
 
 /* ---- Every call on both sides ---- */
 
@@ -94,8 +96,10 @@ struct lent {
 
 #define LENT(area) ((struct lent){(area), sizeof(area)})
 
-enum call { STEP, RUN, LIST, LEVEL, FRESH, PICTURE, BOOK_READ, BOOK_WRITE, LISTING_WRITE, LISTING_READ, CALLS };
-enum { REFUSALS = 27 };
+enum call {
+    STEP, RUN, LIST, LEVEL, FRESH, PICTURE, BOOK_READ, BOOK_WRITE, LISTING_WRITE, LISTING_READ, RUN_TWO, CALLS
+};
+enum { REFUSALS = 29, CARS = 2 };
 
 extern const char *const call_name[CALLS];
 extern unsigned long reached[CALLS][REFUSALS];
@@ -108,7 +112,10 @@ extern struct after {
     int32_t level;
     uint64_t count;
     uint64_t part[6];
+    uint32_t reason_of[CARS];
+    uint64_t entries;
     const uint8_t *memory, *record, *output;
+    const uint8_t *memory_of[CARS], *record_of[CARS], *picture_of[CARS];
 } after;
 
 /* Each lends copies of the bytes to both emulators, ending right before a page that cannot be touched, and compares
@@ -124,6 +131,13 @@ uint32_t pair_book_read(struct lent book);
 uint32_t pair_book_write(struct lent program, struct lent wiring, struct lent level, struct lent output);
 uint32_t pair_listing_write(struct lent program, struct lent output);
 uint32_t pair_listing_read(struct lent text, struct lent output);
+
+struct lent_car {
+    struct lent memory, record, picture;
+    uint32_t stop;
+};
+
+uint32_t pair_run_two(struct lent program, struct lent wiring, const struct lent_car car[CARS], struct lent script);
 
 /* Holds an answer and its value to what the documents say. */
 void expect(const char *what, uint32_t answer, uint32_t number, uint64_t value);
