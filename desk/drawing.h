@@ -4,11 +4,12 @@
 
 #include <stddef.h>
 #include <stdint.h>
+#include <stdio.h>
 
 enum { COLUMNS_USUAL = 16 };
 
 /* The first 7 x digits elements are seven-segment digits, each with its elements in the order a to g; the others are
    lamps, so many in a row. */
-void draw_picture(const uint8_t *picture, size_t elements, size_t digits, size_t columns);
+void draw_picture(FILE *to, const uint8_t *picture, size_t elements, size_t digits, size_t columns);
 
 #endif

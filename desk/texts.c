@@ -41,6 +41,24 @@ bool number_from(const char *text, size_t length, unsigned long long most, unsig
     return true;
 }
 
+/* ---- Reading files ---- */
+
+struct bytes read_text(const char *path, size_t most, struct bytes (*from_text)(const char *, const char *))
+{
+    struct bytes file = read_file(path, most), made;
+
+    if (memchr(file.at, 0, file.length) != NULL)
+        fail("%s is no text", path);
+    made = from_text(path, (const char *)file.at);
+    free(file.at);
+    return made;
+}
+
+struct bytes read_script(const char *path, bool raw, struct bytes (*from_text)(const char *, const char *))
+{
+    return raw ? read_file(path, SCRIPT_FILE_MOST) : read_text(path, SCRIPT_FILE_MOST, from_text);
+}
+
 /* ---- Reading words and lines ---- */
 
 struct reader {
