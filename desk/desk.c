@@ -4,6 +4,7 @@
 #include "explain.h"
 #include "run.h"
 #include "texts.h"
+#include "two.h"
 #include "watch.h"
 #include "wave.h"
 
@@ -391,6 +392,7 @@ static enum status work_demo(const struct command *command, int count, char **wo
 /* ---- Help ---- */
 
 static const char *const run_texts[] = {script_help, NULL};
+static const char *const run_two_texts[] = {two_cars_help, NULL};
 static const char *const listing_texts[] = {listing_help, NULL};
 static const char *const make_texts[] = {program_help, wiring_help, level_help, NULL};
 
@@ -415,6 +417,18 @@ static const struct command commands[] = {
      "--wav writes what the sound channels put out, a sample for each sound clock that was done, channel 1 left and\n"
      "channel 2 right, as a WAV file. HZ is the sound clock: 32768 (if not given) or 112500.\n",
      run_texts, work_run},
+    {"run-two", "run-two BOOK SCRIPT [--stop0 HEX] [--state0 FILE | --options0 N] [--save0 FILE]\n"
+                "                    [--stop1 HEX] [--state1 FILE | --options1 N] [--save1 FILE]\n"
+                "                    [--force] [--raw-script] [--digits N] [--columns N]",
+     "lets a script's entries happen to two cars, each with a chip of its own, over one book",
+     "Each chip is fresh, or as in its state FILE. The options with a car's number are those of desk run, for that car. A\n"
+     "car stops after a cycle that leaves its PC at HEX, or before a word that is no instruction, which is no refusal\n"
+     "here; it then takes no more entries, and the other goes on. The run ends when both have stopped so, or with the\n"
+     "script. What comes of a car is what desk run makes of its own entries. The entries read are all that the run has\n"
+     "passed, those of a stopped car among them.\n"
+     "Both panels are shown side by side, with their levels, drawn as desk picture --help tells, with 8 elements in a row\n"
+     "if --columns is not given. Where a level is refused (9), the panels are shown all the same.\n",
+     run_two_texts, work_run_two},
     {"level", "level BOOK STATE", "tells the level that a state's panel stands at", STATE_HELP, NULL, work_level},
     {"picture", "picture BOOK STATE [--digits N] [--columns N] [--raw]", "draws what a state's panel shows",
      "# is lit, . is dark, in the order of the wiring. With --digits N the first 7N elements are drawn as N\n"

@@ -3,7 +3,7 @@
 
 #include <string.h>
 
-enum { SEGMENTS = 7, ROWS = 7, WIDTH = 6 };
+enum { SEGMENTS = 7, ROWS = 7, WIDTH = 6, GAP = 3 };
 
 /* Where each segment a to g stands in a digit's field of 7 rows and 6 columns. */
 static const char *const shape[SEGMENTS][ROWS] = {
@@ -64,5 +64,40 @@ void draw_picture(FILE *to, const uint8_t *picture, size_t elements, size_t digi
         if (row > first_lamp)
             fprintf(to, "%*s", (int)(2 * (columns - (end - row))), "");
         fprintf(to, "   elements %zu to %zu\n", row, end - 1);
+    }
+}
+
+/* ---- Side by side ---- */
+
+static size_t widest_line(const char *text)
+{
+    size_t widest = 0;
+
+    while (*text != '\0') {
+        size_t width = strcspn(text, "\n");
+
+        widest = width > widest ? width : widest;
+        text += width + (text[width] == '\n');
+    }
+    return widest;
+}
+
+/* Shows the next line of a text, without its end, in so many columns at least, and answers where the rest begins. */
+static const char *show_line(const char *text, size_t columns)
+{
+    size_t width = strcspn(text, "\n");
+
+    printf("%-*.*s", (int)columns, (int)width, text);
+    return text + width + (text[width] == '\n');
+}
+
+void show_beside(const char *left, const char *right)
+{
+    size_t columns = widest_line(left) + GAP;
+
+    while (*left != '\0' || *right != '\0') {
+        left = show_line(left, columns);
+        right = show_line(right, 0);
+        printf("\n");
     }
 }

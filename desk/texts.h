@@ -7,6 +7,7 @@
 #include "files.h"
 
 struct bytes script_from_text(const char *path, const char *text);
+struct bytes two_cars_from_text(const char *path, const char *text); /* a car and an event in every two bytes */
 struct bytes program_from_text(const char *path, const char *text);
 struct bytes wiring_from_text(const char *path, const char *text);
 struct bytes level_from_text(const char *path, const char *text);
@@ -21,6 +22,6 @@ struct bytes read_script(const char *path, bool raw, struct bytes (*from_text)(c
    is at most `most`. */
 bool number_from(const char *text, size_t length, unsigned long long most, unsigned long long *number);
 
-extern const char script_help[], program_help[], wiring_help[], level_help[];
+extern const char script_help[], two_cars_help[], program_help[], wiring_help[], level_help[];
 
 #endif
