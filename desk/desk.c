@@ -360,20 +360,34 @@ static enum status demo_of(const struct book *book, struct bytes script)
     return show_changes(&watch, &run) ? DONE : FAULT;
 }
 
+static enum status demo_two_cars(const struct book *book, struct bytes script)
+{
+    struct two_cars cars = {.book = book, .script = script};
+
+    for (int car = 0; car < CARS; car++) {
+        cars.car[car].stop = GALHOVEIA_NO_STOP;
+        if (!make_fresh(&cars.car[car].state, 0, "a fresh machine"))
+            return REFUSED;
+    }
+    return run_two_cars(&cars, (struct look){false, DEMO_DIGITS, COLUMNS_BESIDE}, false);
+}
+
 static enum status work_demo(const struct command *command, int count, char **words)
 {
     const char *folder[1] = {"examples"};
     const struct option known[] = {{NULL, NULL, NULL}};
     struct book book;
-    struct bytes script;
-    char *book_path, *script_path;
+    struct bytes script, two_cars;
+    char *book_path, *script_path, *two_cars_path;
     enum status status = REFUSED;
 
     if (count > 0)
         take_words(command, count, words, known, folder, 1);
     book_path = path_in(folder[0], "dispatcher.book");
     script_path = path_in(folder[0], "dispatcher.script");
+    two_cars_path = path_in(folder[0], "science-block.script");
     script = read_script(script_path, false, script_from_text);
+    two_cars = read_script(two_cars_path, false, two_cars_from_text);
     if (read_book(book_path, &book)) {
         printf("1. The book\n\n");
         show_book(book_path, &book);
@@ -381,11 +395,17 @@ static enum status work_demo(const struct command *command, int count, char **wo
                "then after a call below the ground stop, then after one above it; and heard: the chime\n"
                "   strikes once for up, twice for down\n\n", script_path, DEMO_STOP);
         status = demo_of(&book, script);
+        if (status == DONE) {
+            printf("\n5. Two cars over this program, each with a chip of its own, by the script %s\n\n", two_cars_path);
+            status = demo_two_cars(&book, two_cars);
+        }
         free(book.file.at);
     }
     free(script.at);
+    free(two_cars.at);
     free(book_path);
     free(script_path);
+    free(two_cars_path);
     return status;
 }
 
@@ -400,7 +420,8 @@ static const char *const make_texts[] = {program_help, wiring_help, level_help, 
 
 static const struct command commands[] = {
     {"demo", "demo [FOLDER]", "runs the example dispatcher and shows what the desk can do",
-     "FOLDER holds dispatcher.book and dispatcher.script; it is examples if not given.\n", NULL, work_demo},
+     "FOLDER holds dispatcher.book, dispatcher.script and science-block.script; it is examples if not given.\n", NULL,
+     work_demo},
     {"fresh", "fresh STATE [--options N] [--force]", "makes the state of a chip just switched on",
      "N is 0 to 7: 1 watchdog on, 2 bonding bit BD0, 4 bonding bit BD1, added up; 0 if not given.\n"
      STATE_HELP, NULL, work_fresh},

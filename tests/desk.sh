@@ -875,8 +875,12 @@ cp two1.state two1.example
 grep -v '^state saved in ' wanted >unsaved
 ends 0 run-two "$book" "$block"
 same out unsaved
+# The demonstration ends with it.
 ends 0 run-two "$book" "$block" --digits 2
 cp out example.out
+ends 0 demo "$examples"
+tail -n "$(wc -l <example.out)" out >got
+same got example.out
 
 # lines EVENTS...: a line for each event, with cycle*9 for nine lines.
 lines() {
