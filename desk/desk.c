@@ -1,8 +1,10 @@
 /* The desk command: panel books, machine states and scripts as files, worked on by the library of galhoveia.h. */
+#include "command.h"
 #include "drawing.h"
 #include "explain.h"
 #include "run.h"
 #include "texts.h"
+#include "two.h"
 #include "watch.h"
 #include "wave.h"
 
@@ -10,101 +12,7 @@
 #include <stdlib.h>
 #include <string.h>
 
-/* ---- What a command is called with ---- */
-
-struct command {
-    const char *name;
-    const char *usage;
-    const char *about;
-    const char *help;         /* what the usage leaves open; NULL for nothing */
-    const char *const *texts; /* descriptions of text forms, ended by NULL; NULL for none */
-    enum status (*work)(const struct command *command, int count, char **words);
-};
-
-struct option {
-    const char *name;
-    const char **value; /* NULL for an option that takes none */
-    bool *given;        /* NULL for an option with a value */
-};
-
-static _Noreturn void wrong_use(const struct command *command, const char *what, const char *word)
-{
-    fflush(stdout);
-    fprintf(stderr, "desk %s: %s%s%s\nusage: desk %s\ndesk %s --help tells more\n", command->name, what,
-            word ? " " : "", word ? word : "", command->usage, command->name);
-    exit(WRONG_USE);
-}
-
-/* Parts the words of a command line into options and the others, which must be `wanted` in number. */
-static void take_words(const struct command *command, int count, char **words, const struct option *options,
-                       const char **others, int wanted)
-{
-    int found = 0;
-    bool options_over = false;
-
-    for (int at = 0; at < count; at++) {
-        const struct option *option = options;
-
-        if (options_over || strncmp(words[at], "--", 2) != 0) {
-            if (found == wanted)
-                wrong_use(command, "one word too many:", words[at]);
-            others[found++] = words[at];
-            continue;
-        }
-        if (strcmp(words[at], "--") == 0) {
-            options_over = true;
-            continue;
-        }
-        while (option->name != NULL && strcmp(option->name, words[at]) != 0)
-            option++;
-        if (option->name == NULL)
-            wrong_use(command, "unknown option", words[at]);
-        if (option->value == NULL) {
-            *option->given = true;
-            continue;
-        }
-        if (at + 1 == count)
-            wrong_use(command, "a value is due after", words[at]);
-        *option->value = words[++at];
-    }
-    if (found < wanted)
-        wrong_use(command, "something is missing", NULL);
-}
-
-/* A hex number with or without $ or 0x before it, as addresses are given on the command line. */
-static uint32_t hex_from(const struct command *command, const char *text)
-{
-    char with_mark[64];
-    unsigned long long number;
-    bool marked = text[0] == '$' || strncmp(text, "0x", 2) == 0 || strncmp(text, "0X", 2) == 0;
-
-    if (snprintf(with_mark, sizeof with_mark, "%s%s", marked ? "" : "$", text) >= (int)sizeof with_mark
-        || !number_from(with_mark, strlen(with_mark), UINT32_MAX, &number))
-        wrong_use(command, "not a hex number up to FFFFFFFF:", text);
-    return (uint32_t)number;
-}
-
-static uint32_t decimal_from(const struct command *command, const char *text, uint32_t most)
-{
-    unsigned long long number;
-
-    if (!number_from(text, strlen(text), most, &number))
-        wrong_use(command, "not a number that fits here:", text);
-    return (uint32_t)number;
-}
-
 /* ---- The commands ---- */
-
-static struct bytes read_text(const char *path, size_t most, struct bytes (*from_text)(const char *, const char *))
-{
-    struct bytes file = read_file(path, most), made;
-
-    if (memchr(file.at, 0, file.length) != NULL)
-        fail("%s is no text", path);
-    made = from_text(path, (const char *)file.at);
-    free(file.at);
-    return made;
-}
 
 static enum status work_fresh(const struct command *command, int count, char **words)
 {
@@ -115,23 +23,11 @@ static enum status work_fresh(const struct command *command, int count, char **w
 
     take_words(command, count, words, known, path, 1);
     may_write(path[0], force);
-    if (!make_fresh(&state, decimal_from(command, options, UINT32_MAX)))
+    if (!make_fresh(&state, decimal_from(command, options, UINT32_MAX), "a fresh machine"))
         return REFUSED;
     write_state(path[0], &state, force);
     printf("%s: a fresh machine\n", path[0]);
     return DONE;
-}
-
-static struct look look_from(const struct command *command, bool raw, const char *digits, const char *columns)
-{
-    struct look look = {raw, 0, COLUMNS_USUAL};
-
-    look.digits = decimal_from(command, digits, GALHOVEIA_ELEMENTS_MOST);
-    if (columns != NULL)
-        look.columns = decimal_from(command, columns, GALHOVEIA_ELEMENTS_MOST);
-    if (look.columns == 0)
-        wrong_use(command, "at least one column is due after", "--columns");
-    return look;
 }
 
 static uint32_t rate_from(const struct command *command, const char *rate)
@@ -169,28 +65,13 @@ static enum status fulfil(struct wishes *wishes, const struct run *run)
 
     if (wishes->wave != NULL)
         faultless = make_wave(wishes, run) && faultless;
-    if (wishes->save != NULL) {
-        if (wishes->wave != NULL && is_same_file(wishes->wave, wishes->save))
-            fail("the state is not saved: %s is the file of the sound, %s", wishes->save, wishes->wave);
-        write_state(wishes->save, &run->end, wishes->force);
-        printf("state saved in %s\n", wishes->save);
-    }
+    if (wishes->save != NULL)
+        save_state(wishes->save, &run->end, wishes->force, wishes->wave, "the sound");
     if (wishes->show
         && !(show_picture(run->book, &run->end, "the picture", wishes->look)
-             && show_level(run->book, &run->end, "the level")))
+             && show_level(stdout, run->book, &run->end, "the level")))
         return faultless ? REFUSED : FAULT;
     return faultless ? DONE : FAULT;
-}
-
-/* What can be found wrong with the files to be written before anything is read. */
-static void may_fulfil(const struct command *command, const struct wishes *wishes)
-{
-    if (wishes->wave != NULL && wishes->save != NULL && is_same_file(wishes->wave, wishes->save))
-        wrong_use(command, "state and sound go into two files, not both into", wishes->save);
-    if (wishes->wave != NULL)
-        may_write(wishes->wave, wishes->force);
-    if (wishes->save != NULL)
-        may_write(wishes->save, wishes->force);
 }
 
 /* The run's events from its start, and what is wanted of it. */
@@ -206,47 +87,40 @@ static enum status run_and_fulfil(struct run *run, uint32_t stop, struct wishes 
 
 static enum status work_run(const struct command *command, int count, char **words)
 {
-    const char *others[2], *stop = NULL, *from = NULL, *options = NULL, *digits = "0", *columns = NULL;
-    const char *cell = NULL, *rate = NULL;
+    const char *others[2], *digits = NULL, *columns = NULL, *cell = NULL, *rate = NULL;
     bool raw_script = false, level = false;
+    struct course course = {NULL, NULL, NULL};
     struct wishes wishes = {.watch = {.count = 0}, .rate = RATE_USUAL};
-    const struct option known[] = {{"--stop", &stop, NULL},        {"--state", &from, NULL},
-                                   {"--save", &wishes.save, NULL}, {"--options", &options, NULL},
+    const struct option known[] = {{"--stop", &course.stop, NULL}, {"--state", &course.state, NULL},
+                                   {"--save", &wishes.save, NULL}, {"--options", &course.options, NULL},
                                    {"--digits", &digits, NULL},    {"--columns", &columns, NULL},
                                    {"--watch", &cell, NULL},       {"--watch-level", NULL, &level},
                                    {"--wav", &wishes.wave, NULL},  {"--rate", &rate, NULL},
                                    {"--force", NULL, &wishes.force},
                                    {"--raw-script", NULL, &raw_script},
                                    {"--show", NULL, &wishes.show}, {NULL, NULL, NULL}};
-    uint32_t stop_address = GALHOVEIA_NO_STOP, cell_address = 0;
+    uint32_t stop, cell_address = 0;
     struct book book;
     struct run run = {.book = &book};
     enum status status = REFUSED;
 
     take_words(command, count, words, known, others, 2);
-    wishes.look = look_from(command, false, digits, columns);
-    if (stop != NULL)
-        stop_address = hex_from(command, stop);
+    wishes.look = look_from(command, (struct look){false, 0, COLUMNS_USUAL}, digits, columns);
+    stop = stop_from(command, &course);
     if (cell != NULL)
         cell_address = hex_from(command, cell);
-    if (from != NULL && options != NULL)
-        wrong_use(command, "--options is for a fresh machine, so not with", "--state");
     if (rate != NULL && wishes.wave == NULL)
         wrong_use(command, "--rate is for the file of", "--wav");
     if (rate != NULL)
         wishes.rate = rate_from(command, rate);
-    may_fulfil(command, &wishes);
-    run.events = raw_script ? read_file(others[1], SCRIPT_FILE_MOST)
-                            : read_text(others[1], SCRIPT_FILE_MOST, script_from_text);
-    if (from != NULL)
-        read_state(from, &run.start);
-    if ((from != NULL || make_fresh(&run.start, options ? decimal_from(command, options, UINT32_MAX) : 0))
-        && read_book(others[0], &book)) {
+    may_write_both(command, wishes.wave, wishes.save, wishes.force, "state and sound go into two files, not both into");
+    run.events = read_script(others[1], raw_script, script_from_text);
+    if (start_from(command, &course, "a fresh machine", &run.start) && read_book(others[0], &book)) {
         if (wishes.show)
             may_draw(&book, wishes.look);
         if ((!level || watch_level(&wishes.watch, &book))
             && (cell == NULL || watch_cell(&wishes.watch, &book, cell_address, "")))
-            status = run_and_fulfil(&run, stop_address, &wishes);
+            status = run_and_fulfil(&run, stop, &wishes);
         free(book.file.at);
     }
     free(run.events.at);
@@ -265,14 +139,14 @@ static enum status work_level(const struct command *command, int count, char **w
     read_state(others[1], &state);
     if (!read_book(others[0], &book))
         return REFUSED;
-    done = show_level(&book, &state, others[1]);
+    done = show_level(stdout, &book, &state, others[1]);
     free(book.file.at);
     return done ? DONE : REFUSED;
 }
 
 static enum status work_picture(const struct command *command, int count, char **words)
 {
-    const char *others[2], *digits = "0", *columns = NULL;
+    const char *others[2], *digits = NULL, *columns = NULL;
     bool raw = false, done;
     const struct option known[] = {
         {"--raw", NULL, &raw}, {"--digits", &digits, NULL}, {"--columns", &columns, NULL}, {NULL, NULL, NULL}};
@@ -281,7 +155,7 @@ static enum status work_picture(const struct command *command, int count, char *
     struct state state;
 
     take_words(command, count, words, known, others, 2);
-    look = look_from(command, raw, digits, columns);
+    look = look_from(command, (struct look){raw, 0, COLUMNS_USUAL}, digits, columns);
     read_state(others[1], &state);
     if (!read_book(others[0], &book))
         return REFUSED;
@@ -459,7 +333,8 @@ static enum status demo_run(struct run *run)
         run->end = part.end;
         if (part.reason != GALHOVEIA_AT_ADDRESS)
             return DONE;
-        if (!show_picture(part.book, &part.end, "the picture", look) || !show_level(part.book, &part.end, "the level"))
+        if (!show_picture(part.book, &part.end, "the picture", look)
+            || !show_level(stdout, part.book, &part.end, "the level"))
             return REFUSED;
         if (!show_strokes(&part))
             return FAULT;
@@ -474,7 +349,7 @@ static enum status demo_of(const struct book *book, struct bytes script)
 {
     struct run run = {.book = book, .events = script};
     struct watch watch = {.count = 0};
-    enum status status = make_fresh(&run.start, 0) ? demo_run(&run) : REFUSED;
+    enum status status = make_fresh(&run.start, 0, "a fresh machine") ? demo_run(&run) : REFUSED;
 
     if (status != DONE)
         return status;
@@ -485,20 +360,34 @@ static enum status demo_of(const struct book *book, struct bytes script)
     return show_changes(&watch, &run) ? DONE : FAULT;
 }
 
+static enum status demo_two_cars(const struct book *book, struct bytes script)
+{
+    struct two_cars cars = {.book = book, .script = script};
+
+    for (int car = 0; car < CARS; car++) {
+        cars.car[car].stop = GALHOVEIA_NO_STOP;
+        if (!make_fresh(&cars.car[car].state, 0, "a fresh machine"))
+            return REFUSED;
+    }
+    return run_two_cars(&cars, (struct look){false, DEMO_DIGITS, COLUMNS_BESIDE}, false);
+}
+
 static enum status work_demo(const struct command *command, int count, char **words)
 {
     const char *folder[1] = {"examples"};
     const struct option known[] = {{NULL, NULL, NULL}};
     struct book book;
-    struct bytes script;
-    char *book_path, *script_path;
+    struct bytes script, two_cars;
+    char *book_path, *script_path, *two_cars_path;
     enum status status = REFUSED;
 
     if (count > 0)
         take_words(command, count, words, known, folder, 1);
     book_path = path_in(folder[0], "dispatcher.book");
     script_path = path_in(folder[0], "dispatcher.script");
-    script = read_text(script_path, SCRIPT_FILE_MOST, script_from_text);
+    two_cars_path = path_in(folder[0], "science-block.script");
+    script = read_script(script_path, false, script_from_text);
+    two_cars = read_script(two_cars_path, false, two_cars_from_text);
     if (read_book(book_path, &book)) {
         printf("1. The book\n\n");
         show_book(book_path, &book);
@@ -506,17 +395,24 @@ static enum status work_demo(const struct command *command, int count, char **wo
                "then after a call below the ground stop, then after one above it; and heard: the chime\n"
                "   strikes once for up, twice for down\n\n", script_path, DEMO_STOP);
         status = demo_of(&book, script);
+        if (status == DONE) {
+            printf("\n5. Two cars over this program, each with a chip of its own, by the script %s\n\n", two_cars_path);
+            status = demo_two_cars(&book, two_cars);
+        }
         free(book.file.at);
     }
     free(script.at);
+    free(two_cars.at);
     free(book_path);
     free(script_path);
+    free(two_cars_path);
     return status;
 }
 
 /* ---- Help ---- */
 
 static const char *const run_texts[] = {script_help, NULL};
+static const char *const run_two_texts[] = {two_cars_help, NULL};
 static const char *const listing_texts[] = {listing_help, NULL};
 static const char *const make_texts[] = {program_help, wiring_help, level_help, NULL};
 
@@ -524,7 +420,8 @@ static const char *const make_texts[] = {program_help, wiring_help, level_help, 
 
 static const struct command commands[] = {
     {"demo", "demo [FOLDER]", "runs the example dispatcher and shows what the desk can do",
-     "FOLDER holds dispatcher.book and dispatcher.script; it is examples if not given.\n", NULL, work_demo},
+     "FOLDER holds dispatcher.book, dispatcher.script and science-block.script; it is examples if not given.\n", NULL,
+     work_demo},
     {"fresh", "fresh STATE [--options N] [--force]", "makes the state of a chip just switched on",
      "N is 0 to 7: 1 watchdog on, 2 bonding bit BD0, 4 bonding bit BD1, added up; 0 if not given.\n"
      STATE_HELP, NULL, work_fresh},
@@ -541,6 +438,18 @@ static const struct command commands[] = {
      "--wav writes what the sound channels put out, a sample for each sound clock that was done, channel 1 left and\n"
      "channel 2 right, as a WAV file. HZ is the sound clock: 32768 (if not given) or 112500.\n",
      run_texts, work_run},
+    {"run-two", "run-two BOOK SCRIPT [--stop0 HEX] [--state0 FILE | --options0 N] [--save0 FILE]\n"
+                "                    [--stop1 HEX] [--state1 FILE | --options1 N] [--save1 FILE]\n"
+                "                    [--force] [--raw-script] [--digits N] [--columns N]",
+     "lets a script's entries happen to two cars, each with a chip of its own, over one book",
+     "Each chip is fresh, or as in its state FILE. The options with a car's number are those of desk run, for that car. A\n"
+     "car stops after a cycle that leaves its PC at HEX, or before a word that is no instruction, which is no refusal\n"
+     "here; it then takes no more entries, and the other goes on. The run ends when both have stopped so, or with the\n"
+     "script. What comes of a car is what desk run makes of its own entries. The entries read are all that the run has\n"
+     "passed, those of a stopped car among them.\n"
+     "Both panels are shown side by side, with their levels, drawn as desk picture --help tells, with 8 elements in a row\n"
+     "if --columns is not given. Where a level is refused (9), the panels are shown all the same.\n",
+     run_two_texts, work_run_two},
     {"level", "level BOOK STATE", "tells the level that a state's panel stands at", STATE_HELP, NULL, work_level},
     {"picture", "picture BOOK STATE [--digits N] [--columns N] [--raw]", "draws what a state's panel shows",
      "# is lit, . is dark, in the order of the wiring. With --digits N the first 7N elements are drawn as N\n"

@@ -14,6 +14,9 @@ struct bytes {
     size_t length;
 };
 
+/* The longest files that are read, in bytes. */
+enum { FILE_MOST = 1 << 20, SCRIPT_FILE_MOST = 1 << 30 };
+
 /* Memory for so many things, or the command ends. */
 void *take_memory(size_t count, size_t size);
 

@@ -3,7 +3,6 @@
 
 #include "drawing.h"
 
-#include <stdio.h>
 #include <stdlib.h>
 #include <string.h>
 
@@ -43,6 +42,14 @@ void write_state(const char *path, const struct state *state, bool force)
     write_file(path, bytes, sizeof bytes, force);
 }
 
+void save_state(const char *path, const struct state *state, bool force, const char *taken, const char *what)
+{
+    if (taken != NULL && is_same_file(taken, path))
+        fail("the state is not saved: %s is the file of %s, %s", path, what, taken);
+    write_state(path, state, force);
+    printf("state saved in %s\n", path);
+}
+
 bool read_book(const char *path, struct book *book)
 {
     uint64_t program = 0, program_len = 0, wiring = 0, wiring_len = 0, level = 0, level_len = 0, value = 0;
@@ -63,14 +70,14 @@ bool read_book(const char *path, struct book *book)
     return true;
 }
 
-bool make_fresh(struct state *state, uint32_t options)
+bool make_fresh(struct state *state, uint32_t options, const char *what)
 {
     uint64_t value = 0;
     uint32_t refusal = galhoveia_fresh(state->memory, sizeof state->memory, state->record, sizeof state->record,
                                        options, &value);
 
     if (refusal != GALHOVEIA_DONE)
-        say_refusal("a fresh machine", refusal, value);
+        say_refusal(what, refusal, value);
     return refusal == GALHOVEIA_DONE;
 }
 
@@ -88,7 +95,7 @@ unsigned level_cell(const struct book *book, enum digit digit)
 
 const char *const digit_meaning[DIGITS] = {" (high digit of the level)", " (low digit of the level)"};
 
-bool show_level(const struct book *book, const struct state *state, const char *state_name)
+bool show_level(FILE *to, const struct book *book, const struct state *state, const char *state_name)
 {
     int32_t level = 0;
     uint64_t value = 0;
@@ -102,7 +109,7 @@ bool show_level(const struct book *book, const struct state *state, const char *
     }
     high = state->memory[level_cell(book, HIGH)];
     low = state->memory[level_cell(book, LOW)];
-    printf("level %ld  (digits %u,%u; ground code %u)\n", (long)level, high, low, book->level.at[4]);
+    fprintf(to, "level %ld  (digits %u,%u; ground code %u)\n", (long)level, high, low, book->level.at[4]);
     return true;
 }
 
@@ -115,22 +122,28 @@ void may_draw(const struct book *book, struct look look)
              7 * (unsigned long)look.digits, (unsigned long)elements);
 }
 
+uint32_t ask_picture(const struct book *book, const struct state *state, struct picture *picture, uint64_t *value)
+{
+    picture->count = 0;
+    return galhoveia_picture(state->memory, sizeof state->memory, state->record, sizeof state->record, book->wiring.at,
+                             book->wiring.length, picture->at, sizeof picture->at, &picture->count, value);
+}
+
 bool show_picture(const struct book *book, const struct state *state, const char *state_name, struct look look)
 {
-    uint8_t picture[GALHOVEIA_ELEMENTS_MOST];
-    uint64_t count = 0, value = 0;
-    uint32_t refusal = galhoveia_picture(state->memory, sizeof state->memory, state->record, sizeof state->record,
-                                         book->wiring.at, book->wiring.length, picture, sizeof picture, &count, &value);
+    struct picture picture;
+    uint64_t value = 0;
+    uint32_t refusal = ask_picture(book, state, &picture, &value);
 
     if (refusal != GALHOVEIA_DONE) {
         say_refusal(state_name, refusal, value);
         return false;
     }
     if (look.raw) {
-        fwrite(picture, 1, (size_t)count, stdout);
+        fwrite(picture.at, 1, (size_t)picture.count, stdout);
         return true;
     }
-    draw_picture(picture, (size_t)count, look.digits, look.columns);
+    draw_picture(stdout, picture.at, (size_t)picture.count, look.digits, look.columns);
     return true;
 }
 

@@ -5,7 +5,7 @@
 #include "files.h"
 #include "listing.h"
 
-enum { FILE_MOST = 1 << 20, SCRIPT_FILE_MOST = 1 << 30 };
+#include <stdio.h>
 
 /* The number in two bytes, high byte first. */
 unsigned two(const uint8_t *bytes);
@@ -18,15 +18,20 @@ struct state {
 void read_state(const char *path, struct state *state);
 void write_state(const char *path, const struct state *state, bool force);
 
+/* Writes the state after a run, and says so. It is not written over `taken`, the file of `what`, which the command has
+   written before; NULL for none. */
+void save_state(const char *path, const struct state *state, bool force, const char *taken, const char *what);
+
 struct book {
     struct bytes file;
     struct bytes program, wiring, level; /* within the file */
     struct lines lines;                  /* the program's listing */
 };
 
-/* Each of these answers whether the library did it; a refusal is said. The caller frees the book's file. */
+/* Each of these answers whether the library did it; a refusal is said, of `what` for a fresh machine. The caller frees
+   the book's file. */
 bool read_book(const char *path, struct book *book);
-bool make_fresh(struct state *state, uint32_t options);
+bool make_fresh(struct state *state, uint32_t options, const char *what);
 
 /* The level's digits, the cell of each, and what is said behind that cell's number. */
 enum digit { HIGH, LOW, DIGITS };
@@ -51,8 +56,16 @@ struct look {
 /* Fails where the wiring has fewer elements than the digits to be drawn need. */
 void may_draw(const struct book *book, struct look look);
 
+/* What the panel shows, a byte for each element. Answers 0 or the refusal, which is not said. */
+struct picture {
+    uint8_t at[GALHOVEIA_ELEMENTS_MOST];
+    uint64_t count;
+};
+
+uint32_t ask_picture(const struct book *book, const struct state *state, struct picture *picture, uint64_t *value);
+
 bool show_picture(const struct book *book, const struct state *state, const char *state_name, struct look look);
-bool show_level(const struct book *book, const struct state *state, const char *state_name);
+bool show_level(FILE *to, const struct book *book, const struct state *state, const char *state_name);
 bool show_writers(const struct book *book, uint32_t cell, const char *meaning);
 bool show_level_writers(const struct book *book);
 

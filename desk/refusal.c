@@ -27,7 +27,7 @@ void say_refusal(const char *what, uint32_t number, uint64_t value)
         fprintf(stderr, "the machine record is not well formed, or does not fit the memory");
         break;
     case GALHOVEIA_UNKNOWN_EVENT:
-        fprintf(stderr, "event %llu of the script, counted from 0, is unknown", with);
+        fprintf(stderr, "place %llu of the script, counted from 0, has an unknown event", with);
         break;
     case GALHOVEIA_UNLISTED_WORD:
         fprintf(stderr, "the cycle would execute the word at $%03llX, which is no instruction", with);
@@ -61,6 +61,12 @@ void say_refusal(const char *what, uint32_t number, uint64_t value)
         else
             fprintf(stderr, "the text is no listing; its %d lines are good, but more stands behind them",
                     GALHOVEIA_WORDS);
+        break;
+    case GALHOVEIA_CAR:
+        fprintf(stderr, "place %llu of the script, counted from 0, has a car above 1", with);
+        break;
+    case GALHOVEIA_CUT_ENTRY:
+        fprintf(stderr, "the script ends behind the car at place %llu, counted from 0, with no event for it", with);
         break;
     default:
         fprintf(stderr, "a reason this command does not know");

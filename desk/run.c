@@ -20,14 +20,20 @@ uint32_t run_events(struct run *run, uint32_t stop)
         say_refusal("the run", refusal, value);
     if (refusal != GALHOVEIA_DONE && refusal != GALHOVEIA_UNLISTED_WORD)
         return refusal;
-    printf("%llu of %zu events done; stopped ", (unsigned long long)run->done, run->events.length);
-    if (run->reason == GALHOVEIA_AT_ADDRESS)
-        printf("at $%03lX\n", (unsigned long)stop);
-    else
-        printf(run->reason == GALHOVEIA_AT_UNLISTED ? "before a word that is no instruction\n"
-                                                    : "at the script's end\n");
-    show_registers(state);
+    printf("%llu of %zu events done; ", (unsigned long long)run->done, run->events.length);
+    show_stop(run->reason, stop, state);
     return refusal;
+}
+
+void show_stop(uint32_t reason, uint32_t stop, const struct state *state)
+{
+    if (reason == GALHOVEIA_AT_ADDRESS)
+        printf("stopped at $%03lX\n", (unsigned long)stop);
+    else if (reason == GALHOVEIA_AT_UNLISTED)
+        printf("stopped before a word that is no instruction, at $%03X\n", two(state->record + GALHOVEIA_RECORD_PC));
+    else
+        printf("stopped at the script's end\n");
+    show_registers(state);
 }
 
 uint32_t step_once(const struct book *book, struct state *state, uint8_t event, uint64_t *value)

@@ -17,6 +17,9 @@ struct run {
    said; a run before an unlisted word is refused, but what it did counts. */
 uint32_t run_events(struct run *run, uint32_t stop);
 
+/* Says why a run stopped, as the rest of a line, and what the registers then are. */
+void show_stop(uint32_t reason, uint32_t stop, const struct state *state);
+
 /* Lets one event happen. Answers 0 or the refusal, which is not said. */
 uint32_t step_once(const struct book *book, struct state *state, uint8_t event, uint64_t *value);
 

@@ -41,6 +41,24 @@ bool number_from(const char *text, size_t length, unsigned long long most, unsig
     return true;
 }
 
+/* ---- Reading files ---- */
+
+struct bytes read_text(const char *path, size_t most, struct bytes (*from_text)(const char *, const char *))
+{
+    struct bytes file = read_file(path, most), made;
+
+    if (memchr(file.at, 0, file.length) != NULL)
+        fail("%s is no text", path);
+    made = from_text(path, (const char *)file.at);
+    free(file.at);
+    return made;
+}
+
+struct bytes read_script(const char *path, bool raw, struct bytes (*from_text)(const char *, const char *))
+{
+    return raw ? read_file(path, SCRIPT_FILE_MOST) : read_text(path, SCRIPT_FILE_MOST, from_text);
+}
+
 /* ---- Reading words and lines ---- */
 
 struct reader {
@@ -81,19 +99,33 @@ static size_t next_word(struct reader *reader, const char **word)
 
 /* ---- Scripts ---- */
 
+#define EVENTS_HELP \
+    "  cycle              one instruction cycle\n" \
+    "  base               one pulse of the base timer's clock\n" \
+    "  watchdog           one millisecond for the watchdog\n" \
+    "  reset              the reset pin\n" \
+    "  sound              one clock of the sound generator\n" \
+    "  a=5 b=F c=0 d=1    the four pins of port A, B, C or D become this hex digit, pin 3 first\n" \
+    "  $2A                an event by its byte, two hex digits\n" \
+    "  EVENT*N            the event N times, N in decimal: cycle*100\n" \
+    "  (EVENTS)*N         what stands in the brackets N times: (cycle sound*4)*200; a group may stand in a group\n"
+
 const char script_help[] =
     "A script is a text of events with blanks or line ends between them; # begins a comment.\n"
-    "  cycle              one instruction cycle\n"
-    "  base               one pulse of the base timer's clock\n"
-    "  watchdog           one millisecond for the watchdog\n"
-    "  reset              the reset pin\n"
-    "  sound              one clock of the sound generator\n"
-    "  a=5 b=F c=0 d=1    the four pins of port A, B, C or D become this hex digit, pin 3 first\n"
-    "  $2A                an event by its byte, two hex digits\n"
-    "  EVENT*N            the event N times, N in decimal: cycle*100\n"
-    "  (EVENTS)*N         what stands in the brackets N times: (cycle sound*4)*200; a group may stand in a group\n"
+    EVENTS_HELP
     "With --raw-script the file holds the event bytes themselves.\n";
 
+const char two_cars_help[] =
+    "A script of two cars is a text of events. In every line they stand behind their car, 0: or 1:, which holds up to\n"
+    "the next car or the line's end; a group may have events of both. # begins a comment.\n"
+    "  0: a=1 cycle*100            events of car 0\n"
+    "  1: reset cycle*20           events of car 1\n"
+    "  (0: cycle 1: cycle)*50      turn by turn\n"
+    "The events are:\n"
+    EVENTS_HELP
+    "With --raw-script the file holds the bytes themselves, two for each entry: the car, 0 or 1, and the event.\n";
+
+/* The most that a script's text may come to, in bytes, and the groups in each other. */
 enum { SCRIPT_MOST = 1 << 30, GROUPS_MOST = 16 };
 
 static bool is_word(const char *word, size_t length, const char *name)
@@ -129,7 +161,8 @@ static bool event_from(const char *word, size_t length, uint8_t *event)
     return false;
 }
 
-/* A script that is being read, and the groups that are open in it: where each begins, in the script and in the text. */
+/* A script that is being read, and the groups that are open in it: where each begins, in the script and in the text. In
+   a script of two cars also the last car that was named, in which line, and whether its first event is still to come. */
 struct growing {
     struct reader reader;
     struct bytes script;
@@ -139,6 +172,12 @@ struct growing {
         unsigned long line;
     } group[GROUPS_MOST];
     size_t open;
+    bool two_cars;
+    struct {
+        uint8_t number;
+        unsigned long line;
+        bool waits;
+    } car;
 };
 
 /* The next bracket or event with what stands right behind it, as next_word has it. */
@@ -193,7 +232,8 @@ static void repeat_from(struct growing *growing, size_t from, size_t times)
     size_t once = growing->script.length - from, whole = once * times;
 
     if (times > 0 && once > (SCRIPT_MOST - from) / times)
-        fail("%s:%lu: the script has more than %d events", growing->reader.path, growing->reader.line, SCRIPT_MOST);
+        fail("%s:%lu: the script has more than %d %s", growing->reader.path, growing->reader.line,
+             growing->two_cars ? SCRIPT_MOST / 2 : SCRIPT_MOST, growing->two_cars ? "entries" : "events");
     make_room(growing, from + whole);
     for (size_t done = once; done < whole;) {
         size_t part = done < whole - done ? done : whole - done;
@@ -226,29 +266,79 @@ static void close_group(struct growing *growing, const char *part, size_t length
     repeat_from(growing, growing->group[growing->open].from, times);
 }
 
+/* A car must have an event behind it in its line. */
+static void end_car(const struct growing *growing)
+{
+    if (growing->car.waits)
+        fail("%s:%lu: no event stands behind %u: in this line", growing->reader.path, growing->car.line,
+             growing->car.number);
+}
+
+/* Answers whether a car stands here, as whatever is before a colon must be, and takes it. */
+static bool take_car(struct growing *growing)
+{
+    struct reader *reader = &growing->reader;
+    size_t name = 0, colon;
+
+    skip_blanks(reader);
+    while (!ends_word(reader->at[name]) && strchr(":()", reader->at[name]) == NULL)
+        name++;
+    colon = name + strspn(reader->at + name, " \t");
+    if (reader->at[colon] != ':')
+        return false;
+    if (!is_word(reader->at, name, "0") && !is_word(reader->at, name, "1"))
+        fail("%s:%lu: %.*s is no car; the cars are 0: and 1:", reader->path, reader->line, (int)colon + 1, reader->at);
+    end_car(growing);
+    growing->car.number = (uint8_t)(*reader->at - '0');
+    growing->car.line = reader->line;
+    growing->car.waits = true;
+    reader->at += colon + 1;
+    return true;
+}
+
+/* An event must have a car before it in its line. */
+static void need_car(struct growing *growing, const char *part, size_t length)
+{
+    if (growing->car.line != growing->reader.line) {
+        end_car(growing);
+        fail("%s:%lu: %.*s: of which car? In every line 0: or 1: stands before the events", growing->reader.path,
+             growing->reader.line, (int)length, part);
+    }
+    growing->car.waits = false;
+}
+
 static void add_events(struct growing *growing, const char *part, size_t length)
 {
     const char *star = memchr(part, '*', length);
     size_t name = star ? (size_t)(star - part) : length, times, from = growing->script.length;
     uint8_t event;
 
+    if (growing->two_cars)
+        need_car(growing, part, length);
     if (!event_from(part, name, &event))
         fail("%s:%lu: %.*s is no event (desk run --help lists them)", growing->reader.path, growing->reader.line,
              (int)length, part);
     times = times_of(&growing->reader, part, length, name);
-    make_room(growing, from + 1);
-    growing->script.at[from] = event;
-    growing->script.length = from + 1;
+    make_room(growing, from + 2);
+    if (growing->two_cars)
+        growing->script.at[growing->script.length++] = growing->car.number;
+    growing->script.at[growing->script.length++] = event;
     repeat_from(growing, from, times);
 }
 
-struct bytes script_from_text(const char *path, const char *text)
+static struct bytes events_from_text(const char *path, const char *text, bool two_cars)
 {
-    struct growing growing = {.reader = {path, text, 1}, .script = {take_memory(1, 1), 0}, .room = 1};
+    struct growing growing = {
+        .reader = {path, text, 1}, .script = {take_memory(1, 1), 0}, .room = 1, .two_cars = two_cars};
     const char *part;
     size_t length;
 
-    while ((length = next_part(&growing.reader, &part)) != 0) {
+    for (;;) {
+        if (two_cars && take_car(&growing))
+            continue;
+        length = next_part(&growing.reader, &part);
+        if (length == 0)
+            break;
         if (*part == '(')
             open_group(&growing);
         else if (*part == ')')
@@ -258,7 +348,18 @@ struct bytes script_from_text(const char *path, const char *text)
     }
     if (growing.open > 0)
         fail("%s:%lu: the group that begins here has no ) at its end", path, growing.group[growing.open - 1].line);
+    end_car(&growing);
     return growing.script;
+}
+
+struct bytes script_from_text(const char *path, const char *text)
+{
+    return events_from_text(path, text, false);
+}
+
+struct bytes two_cars_from_text(const char *path, const char *text)
+{
+    return events_from_text(path, text, true);
 }
 
 /* ---- Wirings ---- */

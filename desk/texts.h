@@ -7,14 +7,21 @@
 #include "files.h"
 
 struct bytes script_from_text(const char *path, const char *text);
+struct bytes two_cars_from_text(const char *path, const char *text); /* a car and an event in every two bytes */
 struct bytes program_from_text(const char *path, const char *text);
 struct bytes wiring_from_text(const char *path, const char *text);
 struct bytes level_from_text(const char *path, const char *text);
+
+/* Reads a file of so many bytes at the most by one of these. A file with a 0 in it is no text. */
+struct bytes read_text(const char *path, size_t most, struct bytes (*from_text)(const char *, const char *));
+
+/* A script's bytes: the file itself where it is raw, else what its text comes to. */
+struct bytes read_script(const char *path, bool raw, struct bytes (*from_text)(const char *, const char *));
 
 /* A number as it is written in all of these: 18, $12 or 0x12. Answers whether the text, up to its end, is one that
    is at most `most`. */
 bool number_from(const char *text, size_t length, unsigned long long most, unsigned long long *number);
 
-extern const char script_help[], program_help[], wiring_help[], level_help[];
+extern const char script_help[], two_cars_help[], program_help[], wiring_help[], level_help[];
 
 #endif

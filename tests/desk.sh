@@ -72,7 +72,7 @@ ends 0 --help
 says out 'desk writers BOOK CELL'
 quiet
 ends 0 book --help
-for command in demo fresh run level picture writers listing program 'book check' 'book make'; do
+for command in demo fresh run run-two level picture writers listing program 'book check' 'book make'; do
     # shellcheck disable=SC2086
     ends 0 $command --help
     says out "usage: desk $command"
@@ -101,7 +101,7 @@ says err 'no such command: nonsense'
 ends 2 book
 ends 2 book burn
 says err 'no such command: book burn'
-for command in fresh run level picture writers listing program 'book check' 'book make'; do
+for command in fresh run run-two level picture writers listing program 'book check' 'book make'; do
     # shellcheck disable=SC2086
     ends 2 $command
     says err "usage: desk $command"
@@ -814,6 +814,397 @@ says out "Timer0's low nibble is frozen as 0 until \$004 is read"
 { head -c 1067 end.state; printf '\017\001'; } >frozen.state
 ends 0 run "$book" empty.script --state frozen.state
 says out "Timer0's low nibble is frozen as 15 until \$004 is read"
+
+echo "desk: two cars"
+block=$examples/science-block.script
+
+# alone CAR BOOK WORDS...: what desk run makes of the car's own entries, car0.script or car1.script, is kept in car0.out
+# and car0.state, or 1.
+alone() {
+    car=$1 its_book=$2
+    shift 2
+    # shellcheck disable=SC2086
+    "$desk" run "$its_book" "car$car.script" "$@" --show $look --save "car$car.state" --force >"car$car.out" 2>/dev/null
+}
+look='--columns 8'
+
+# How many entries a car has, and how many of them it takes until it stops; 0 if it never does.
+all_of() {
+    sed -n '1s/^[0-9]* of \([0-9]*\) .*/\1/p' "car$1.out"
+}
+taken_by() {
+    echo $(($(sed -n -e '1s/^\([0-9]*\) of .*; stopped at \$.*/\1/p' -e '1s/^\([0-9]*\) of .*; stopped before .*/\1 + 1/p' \
+        -e "1s/.*; stopped at the script's end/0/p" "car$1.out")))
+}
+
+# told READ: what a run of two cars then has to tell: of each why it stopped, and its registers; panels and levels.
+told() {
+    echo "$1 of $(($(all_of 0) + $(all_of 1))) entries read"
+    for car in 0 1; do
+        sed -e "1s/.*; /car $car: /" -e '/^ /d' -e '/^level /d' -e 's/ saved in car/ saved in two/' "car$car.out"
+        { echo "car $car"; grep '^ ' "car$car.out"; grep '^level ' "car$car.out" || echo 'no level'; } >"panel$car"
+    done
+    wide=$(awk '{ if (length > most) most = length } END { print most + 3 }' panel0)
+    paste -d '\n' panel0 panel1 | awk -v wide="$wide" 'NR % 2 { left = $0; next } { printf "%-" wide "s%s\n", left, $0 }'
+}
+
+# agrees STATUS READ BOOK SCRIPT WORDS...: a run of two cars comes to what each car's own entries come to.
+agrees() {
+    wanted_status=$1
+    told "$2" >wanted
+    shift 2
+    # shellcheck disable=SC2086
+    ends "$wanted_status" run-two "$@" $look --save0 two0.state --save1 two1.state --force
+    same out wanted
+    same two0.state car0.state
+    same two1.state car1.state
+}
+
+# The example, and each car's own entries in it; no line of it has car 1 before car 0.
+sed -e 's/#.*//' -e 's/1:[^)]*//' -e 's/0://' "$block" >car0.script
+sed -e 's/#.*//' -e 's/0:[^)]*1:/1:/' -e 's/0:.*//' -e 's/1://' "$block" >car1.script
+for look in '--columns 7' '--columns 240' '--digits 1 --columns 5' '--digits 2 --columns 8' '--columns 8'; do
+    alone 0 "$book"
+    alone 1 "$book"
+    agrees 0 $(($(all_of 0) + $(all_of 1))) "$book" "$block"
+    quiet
+done
+says out 'level -1  (digits 0,1; ground code 2)   level 6  (digits 1,0; ground code 2)'
+cp two0.state two0.example
+cp two1.state two1.example
+grep -v '^state saved in ' wanted >unsaved
+ends 0 run-two "$book" "$block"
+same out unsaved
+# The demonstration ends with it.
+ends 0 run-two "$book" "$block" --digits 2
+cp out example.out
+ends 0 demo "$examples"
+tail -n "$(wc -l <example.out)" out >got
+same got example.out
+
+# lines EVENTS...: a line for each event, with cycle*9 for nine lines.
+lines() {
+    for event in "$@"; do
+        case $event in
+        *'*'*) yes "${event%\**}" | head -n "${event#*\*}" ;;
+        *) echo "$event" ;;
+        esac
+    done
+}
+
+# The lines of one car and then those of the other, or line by line in turn, with each line's car in front.
+in_order() {
+    for car in "$@"; do sed "s/^/$car: /" "car$car.script"; done >cars.script
+}
+in_turn() {
+    paste -d '\n' car0.script car1.script | awk 'NF { print (NR % 2 ? "0: " : "1: ") $0 }' >cars.script
+}
+
+# How many lines there are up to the one with which the second car stops; all of them, if one never does.
+lines_read() {
+    awk -v stop0="$(taken_by 0)" -v stop1="$(taken_by 1)" '
+        $1 == "0:" && ++taken0 == stop0 { at0 = NR }
+        $1 == "1:" && ++taken1 == stop1 { at1 = NR }
+        END { print at0 && at1 ? (at0 > at1 ? at0 : at1) : NR }' cars.script
+}
+
+# both STATUS BOOK WORDS0 WORDS1: the entries of car0.script and car1.script, in three orders, with these words of desk
+# run for each car.
+both() {
+    wanted_status=$1 its_book=$2 words0=$3 words1=$4
+    # shellcheck disable=SC2086
+    alone 0 "$its_book" $words0
+    # shellcheck disable=SC2086
+    alone 1 "$its_book" $words1
+    words="$(echo "$words0" | sed 's/--[a-z]*/&0/g') $(echo "$words1" | sed 's/--[a-z]*/&1/g')"
+    for order in 'in_order 0 1' 'in_order 1 0' in_turn; do
+        $order
+        # shellcheck disable=SC2086
+        agrees "$wanted_status" "$(lines_read)" "$its_book" cars.script $words
+    done
+}
+
+# A car that has stopped takes nothing more, no reset either, and the other goes on.
+lines 'cycle*70' reset 'cycle*70' >car0.script
+lines b=1 c=0 'cycle*60' a=1 'cycle*105' a=0 >car1.script
+both 0 "$book" '--stop 010' ''
+says out 'car 0: stopped at $010'
+says out "car 1: stopped at the script's end"
+both 0 "$book" '--stop $10' '--stop 0x1000'
+both 0 "$book" '' '--stop 010'
+says out 'car 1: stopped at $010'
+both 0 "$book" '' ''
+# The run ends with the entry that stops the second.
+both 0 "$book" '--stop 010' '--stop 010'
+both 0 "$book" '--stop 010' '--stop 012'
+both 0 "$book" '--stop 100' '--stop 013'
+# A word that is no instruction is no refusal here.
+printf ' LDI $020, 1\n LDI $021, 3\n LDI $007, 4\n DW $F800\n' >cut.asm
+ends 0 book make cut.book cut.asm small.wiring small.level
+lines 'cycle*9' reset >car0.script
+lines 'cycle*2' d=5 cycle a=F 'cycle*3' >car1.script
+both 0 cut.book '' ''
+says out 'car 0: stopped before a word that is no instruction, at $003'
+says out 'car 1: stopped before a word that is no instruction, at $003'
+quiet
+both 0 cut.book '--stop 003' ''
+says out 'car 0: stopped at $003'
+both 0 cut.book '' '--stop 001'
+lines 'cycle*3' >car1.script
+both 0 cut.book '' ''
+says out "car 1: stopped at the script's end"
+# No entries, of one car or of both.
+: >car0.script
+both 0 "$book" '' ''
+: >car1.script
+both 0 "$book" '' ''
+says out '0 of 0 entries read'
+same two0.state fresh.state
+# Each car has its own start and options.
+lines 'watchdog*4095' 'cycle*5' 'watchdog*5' >car0.script
+cp car0.script car1.script
+both 0 "$book" '--options 1' ''
+cmp -s two0.state two1.state && wrong "the watchdog of car 0 is that of car 1" || ok
+both 0 "$book" '--options 6' '--options 1'
+lines b=0 c=0 a=1 'cycle*105' a=0 >car0.script
+lines b=7 c=7 a=1 'cycle*105' a=0 >car1.script
+both 0 "$book" '--state ready.state' '--state up.state'
+both 0 "$book" '--state up.state' '--state ready.state --stop 1FF'
+both 0 "$book" '--state ready.state' '--state ready.state'
+both 0 "$book" '--state below.state' '--options 3'
+lines 'cycle*7' >car0.script
+lines 'cycle*5' >car1.script
+both 0 halves.book '--stop 004' ''
+says out "Timer0's low nibble is frozen as 15 until \$004 is read"
+lines 'cycle*7' 'sound*9' >car0.script
+cp car0.script car1.script
+both 0 octave.book '' '--stop 006'
+both 0 rest.book '--stop 006' ''
+# A digit above 7 is told of its car, and both panels are shown.
+lines 'cycle*9' >car0.script
+lines d=1 >car1.script
+high="refused by 9, value 0: the level's high digit is above 7"
+both 1 stop.book '' ''
+echo "desk: the level of car 0: $high" >wanted
+same err wanted
+both 1 turned.book '' ''
+says err "desk: the level of car 0: refused by 9, value 1: the level's low digit is above 7"
+lines d=1 >car0.script
+lines 'cycle*9' >car1.script
+both 1 stop.book '' ''
+echo "desk: the level of car 1: $high" >wanted
+same err wanted
+lines cycle >car0.script
+both 1 stop.book '' ''
+{ echo "desk: the level of car 0: $high"; echo "desk: the level of car 1: $high"; } >wanted
+same err wanted
+# Half a million turns.
+printf '(0: cycle 1: cycle sound)*500000' >cars.script
+printf 'cycle*500000' >car0.script
+printf '(cycle sound)*500000' >car1.script
+alone 0 "$book"
+alone 1 "$book"
+agrees 0 1500000 "$book" cars.script
+
+# reads_as TEXT BYTES: a text and the bytes of its entries are one script of two cars.
+reads_as() {
+    printf '%b' "$1" >text.script
+    # shellcheck disable=SC2059
+    printf "$2" >text.bytes
+    ends 0 run-two "$book" text.script --save0 text0.state --save1 text1.state --force
+    cp out text.out
+    ends 0 run-two "$book" text.bytes --raw-script --save0 bytes0.state --save1 bytes1.state --force
+    sed 's/ saved in bytes/ saved in text/' out >got
+    same got text.out
+    same text0.state bytes0.state
+    same text1.state bytes1.state
+}
+reads_as '0: a=1 cycle*2\n1: b=2 reset' '\000\021\000\000\000\000\001\042\001\003'
+reads_as '0:a=1 1:b=2' '\000\021\001\042'
+reads_as '0 : a=1\n\t1\t:\tb=2  \n' '\000\021\001\042'
+reads_as '  # two cars\n\n 0: a=1 # the first\r\n#1: b=2\n1:b=3#none\n\n' '\000\021\001\043'
+reads_as '1: $2A sound base watchdog\n0: $05' '\001\052\001\005\001\001\001\002\000\005'
+reads_as '(0: cycle 1: sound)*2 a=1' '\000\000\001\005\000\000\001\005\001\021'
+reads_as '0: (cycle 1: cycle) a=1' '\000\000\001\000\001\021'
+reads_as '0:(a=1 cycle*2)*2' '\000\021\000\000\000\000\000\021\000\000\000\000'
+reads_as '(\n0: a=1 (\n1: b=2\n)*2\n0: a=3)*2' '\000\021\001\042\001\042\000\023\000\021\001\042\001\042\000\023'
+reads_as '0: cycle*0\n1: a=1 ()*5' '\001\021'
+reads_as '\n# nothing\n' ''
+
+# bad_cars LINE WORDS TEXT: the text is refused with the line and the words, and nothing is done.
+bad_cars() {
+    printf '%b' "$3" >bad.script
+    ends 2 run-two "$book" bad.script --save0 never.state --save1 never1.state
+    says err "desk: bad.script:$1: $2"
+    unbegun
+    absent never.state
+    absent never1.state
+}
+for bad in 2: 10: 00: 01: -1: x: cycle: '$1:' 0x1: :; do
+    bad_cars 3 "$bad is no car; the cars are 0: and 1:" "0: cycle\n\n $bad cycle"
+done
+bad_cars 1 '2 : is no car; the cars are 0: and 1:' '2 : cycle'
+bad_cars 1 ': is no car; the cars are 0: and 1:' '0:: cycle'
+bad_cars 1 'cycle: is no car; the cars are 0: and 1:' '0: cycle:'
+which='of which car? In every line 0: or 1: stands before the events'
+bad_cars 1 "cycle: $which" 'cycle'
+bad_cars 2 "a=1: $which" '0: cycle\na=1 0: cycle'
+bad_cars 2 "0: $which" '# no colon\n0 cycle'
+bad_cars 1 "0;cycle: $which" '0;cycle'
+bad_cars 3 "cycle: $which" '0: (cycle\n# and\ncycle)*2'
+bad_cars 2 "cycles: $which" '1: cycle\ncycles'
+bad_cars 1 'no event stands behind 0: in this line' '0:'
+bad_cars 2 'no event stands behind 1: in this line' '0: cycle\n1: # nothing\n0: cycle'
+bad_cars 1 'no event stands behind 0: in this line' '0: 1: cycle'
+bad_cars 1 'no event stands behind 0: in this line' '0:\ncycle*100\n'
+bad_cars 1 'no event stands behind 1: in this line' '1: ()*2\n0: cycle'
+bad_cars 1 'no event stands behind 0: in this line' '0: (\n1: cycle)*2'
+for bad in cycles 0 e=1 'a=G' '$123' '*5'; do
+    bad_cars 2 "$bad is no event (desk run --help lists them)" "0: cycle\n1: $bad"
+done
+bad_cars 2 'cycle*x: how many times?' '0: cycle\n1: cycle*x'
+bad_cars 1 ')*: how many times?' '0: (cycle)*'
+bad_cars 1 ')*2:: how many times?' '0: (cycle)*2: cycle'
+bad_cars 2 'the group that begins here has no ) at its end' '0: cycle\n1: (cycle\n0: cycle'
+bad_cars 2 ')*3 closes a group that no ( opens' '0: cycle\n)*3'
+bad_cars 2 'the script has more than 536870912 entries' '0: cycle\n1: cycle*536870912'
+bad_cars 1 'the script has more than 536870912 entries' '(0: cycle*1000 1: cycle*1000)*300000'
+printf '0: cycle\0000: cycle' >nul.script
+ends 2 run-two "$book" nul.script
+says err 'nul.script is no text'
+# A script of the one kind is none of the other.
+ends 2 run-two "$book" "$script"
+says err "desk: $script:3: cycle: $which"
+ends 2 run "$book" "$block"
+says err "desk: $block:4: 0: is no event"
+
+# bad_entry NUMBER VALUE WORDS ENTRY BYTES: a script is refused in these words, with the entry's car and event behind
+# them, and nothing is done.
+bad_entry() {
+    # shellcheck disable=SC2059
+    printf "$5" >bad.bytes
+    {
+        echo "desk: the run of two cars: refused by $1, value $2: $3"
+        echo "  entry $(($2 / 2)), counted from 0, has the car $4"
+    } >wanted
+    cp ready.state kept0
+    ends 1 run-two "$book" bad.bytes --raw-script --state0 ready.state --save0 ready.state --save1 never.state --force
+    same err wanted
+    unbegun
+    same ready.state kept0
+    absent never.state
+}
+bad_entry 27 0 'place 0 of the script, counted from 0, has a car above 1' '2 and the event $00' '\002\000'
+bad_entry 27 4 'place 4 of the script, counted from 0, has a car above 1' '255 and the event $11' '\000\000\001\000\377\021\002\000'
+bad_entry 27 2 'place 2 of the script, counted from 0, has a car above 1' '7 and no event' '\000\000\007'
+bad_entry 27 2 'place 2 of the script, counted from 0, has a car above 1' '3 and the event $00' '\000\000\003\000\001'
+cut='the script ends behind the car at place'
+bad_entry 28 0 "$cut 0, counted from 0, with no event for it" '1 and no event' '\001'
+bad_entry 28 4 "$cut 4, counted from 0, with no event for it" '0 and no event' '\000\000\001\000\000'
+bad_entry 5 1 'place 1 of the script, counted from 0, has an unknown event' '0 and the event $50' '\000\120\001\120'
+bad_entry 5 3 'place 3 of the script, counted from 0, has an unknown event' '1 and the event $04' '\000\000\001\004\000'
+bad_entry 5 5 'place 5 of the script, counted from 0, has an unknown event' '9 and the event $FF' '\002\000\000\000\011\377\001'
+# The event of a text too, and in a script of one car as before.
+printf '0: cycle\n1: cycle $50' >bad.script
+ends 1 run-two "$book" bad.script
+says err 'refused by 5, value 5: place 5 of the script, counted from 0, has an unknown event'
+says err '  entry 2, counted from 0, has the car 1 and the event $50'
+ends 1 run "$book" unknown.script
+says err 'desk: the run: refused by 5, value 1: place 1 of the script, counted from 0, has an unknown event'
+
+# bad_start CAR NUMBER VALUE WORDS...: the state of that car is refused, and nothing is done.
+bad_start() {
+    car=$1 number=$2 value=$3
+    shift 3
+    ends 1 run-two "$book" "$block" "$@" --save0 never.state --save1 never1.state
+    says err "desk: the state of car $car: refused by $number, value $value:"
+    unbegun
+    absent never.state
+    absent never1.state
+}
+{ head -c 768 end.state; printf '\020'; tail -c +770 end.state; } >display.state
+bad_start 0 3 0 --state0 cell.state
+bad_start 1 3 0 --state1 cell.state
+bad_start 0 3 0 --state0 cell.state --state1 display.state
+bad_start 0 3 768 --state0 display.state --state1 cell.state
+bad_start 0 4 0 --state0 record.state
+bad_start 1 4 0 --state1 record.state
+bad_start 0 4 0 --state0 record.state --state1 record.state
+bad_start 1 3 768 --state0 record.state --state1 display.state
+bad_start 0 3 768 --state0 display.state --state1 record.state
+for car in 0 1; do
+    ends 1 run-two "$book" "$block" --options$car 9 --save0 never.state
+    says err "desk: a fresh machine for car $car: refused by 12, value 9"
+    unbegun
+    ends 2 run-two "$book" "$block" --options$car x --save0 never.state
+    says err 'not a number that fits here: x'
+    ends 2 run-two "$book" "$block" --options$car 1 --state$car ready.state --save0 never.state
+    says err 'options are for a fresh machine, so not with the state ready.state'
+    ends 2 run-two "$book" "$block" --state$car nowhere.state --save0 never.state
+    says err 'cannot read nowhere.state'
+    ends 2 run-two "$book" "$block" --state$car short.state --save0 never.state
+    says err 'short.state is no state'
+    ends 2 run-two "$book" "$block" --state$car old.state --save0 never.state
+    says err 'old.state is a state of a version before'
+    ends 2 run-two "$book" "$block" --stop$car 12G --save0 never.state
+    says err 'not a hex number up to FFFFFFFF: 12G'
+    ends 2 run-two "$book" "$block" --stop$car
+    says err "a value is due after --stop$car"
+    # What is in the way of a car's state.
+    ends 2 run-two "$book" "$block" --save$car end.state
+    says err 'end.state exists and is left as it is; --force writes over it'
+    unbegun
+    ends 2 run-two "$book" "$block" --save$car nowhere/a.state
+    says err 'cannot write nowhere/a.state'
+    unbegun
+    for odd in pipe link dangling folder; do
+        ends 2 run-two "$book" "$block" --save$car $odd --force
+        says err "cannot write $odd: it is no ordinary file"
+        unbegun
+    done
+    # One is saved and the other not.
+    ends 0 run-two "$book" "$block" --save$car only$car.state
+    says out "state saved in only$car.state"
+    same only$car.state "two$car.example"
+done
+absent never.state
+ends 1 run "$book" "$script" --options 9
+says err 'desk: a fresh machine: refused by 12, value 9'
+ends 2 run "$book" "$script" --options 1 --state ready.state
+says err 'options are for a fresh machine, so not with the state ready.state'
+for word in --stop --state --options --save --watch --wav --show; do
+    ends 2 run-two "$book" "$block" $word never.state
+    says err "unknown option $word"
+done
+ends 2 run-two "$book" "$block" more
+says err 'one word too many: more'
+ends 2 run-two "$book" "$block" --columns 0
+says err 'at least one column is due after --columns'
+ends 2 run-two "$book" "$block" --digits 3 --save0 never.state
+says err '3 digits need 21 elements, and the wiring has 16'
+unbegun
+ends 2 run-two "$book" nowhere.script --save0 never.state
+says err 'cannot read nowhere.script'
+ends 2 run-two nowhere.book "$block" --save0 never.state
+says err 'cannot read nowhere.book'
+ends 1 run-two example.out "$block" --save0 never.state
+says err 'example.out: refused by 10, value 0'
+absent never.state
+# Two states go into two files, whatever they are called.
+ends 2 run-two "$book" "$block" --save0 never.state --save1 never.state --force
+says err 'the states of two cars go into two files, not both into never.state'
+unbegun
+absent never.state
+cp end.state kept
+ends 2 run-two "$book" "$block" --save0 end.state --save1 ./end.state --force
+says err 'the states of two cars go into two files, not both into ./end.state'
+unbegun
+same end.state kept
+ends 2 run-two "$book" "$block" --save0 twice.state --save1 ./twice.state --force
+says out 'state saved in twice.state'
+says err 'the state is not saved: ./twice.state is the file of car 0, twice.state'
+same twice.state two0.example
+no_parts
 
 echo "desk: programs on paper"
 # line_is NUMBER TEXT: the last run's output has this line at that place.
