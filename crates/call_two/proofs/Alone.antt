@@ -1,6 +1,7 @@
 -- EACH CAR BY ITSELF (02, P5): where the call is done, a car's machine, memory, picture and stop reason are what the one-car run and the picture give for its own entries; so they depend on nothing else.
 use mathlib.Core.Path.{_≡_, _∙_, refl, ap, sym, subst}
 use mathlib.Core.Bool.{Bool, true, false}
+use mathlib.Core.Logic.{_⊎_, inl, inr}
 use mathlib.Core.List.{List, [], _∷_}
 use Prim.Native.Nat.{ℕ, zero, suc, _+_, _/_, _%_, _<_, _≤_}
 use native.Mathlib.Omega.{arith}
@@ -276,3 +277,18 @@ module _ (p wiring : List ℕ) (a : Lent) (stop : ℕ) (b : Lent) (stop1 : ℕ) 
   pub refused-leaves : runTwoOf p wiring a stop b stop1 script .outcome ≡ Outcome.Refused why → runTwoOf p wiring a stop b stop1 script ≡ answered (Outcome.Refused why) a b
   unfolding runTwoOf
   refused-leaves = judged-leaves (twoJudged p wiring a b script)
+
+-- so in every case a car is left as it was, or as the one-car run leaves it
+module _ (p wiring : List ℕ) (a : Lent) (stop : ℕ) (b : Lent) (stop1 : ℕ) (script : List ℕ) where
+  abbrev leftAs : ℕ → Lent
+  leftAs k = ofCar k (runTwoOf p wiring a stop b stop1 script .first) (runTwoOf p wiring a stop b stop1 script .second)
+
+  abbrev LeftOrRun : ℕ → Type 0
+  LeftOrRun k = (leftAs k ≡ ofCar k a b) ⊎ (leftAs k .current ≡ runCallOf p (ofCar k a b .current) (ownOf (ofCar k 0 1) (entriesOf script)) (ofCar k stop stop1) .after)
+
+  by-outcome : (k : ℕ) (o : Outcome) → runTwoOf p wiring a stop b stop1 script .outcome ≡ o → LeftOrRun k
+  by-outcome k (Outcome.Ended v w n) e = inr (comes p wiring a stop b stop1 script v w n e k .state)
+  by-outcome k (Outcome.Refused why) e = inl (ap (λ (r : Answered). ofCar k (r .first) (r .second)) (refused-leaves p wiring a stop b stop1 script why e))
+
+  pub left-or-run : (k : ℕ) → LeftOrRun k
+  left-or-run k = by-outcome k (runTwoOf p wiring a stop b stop1 script .outcome) refl

@@ -3,3 +3,4 @@ pub mod Event
 pub mod Run
 pub mod Calls
 pub mod Host
+pub mod Cars
