@@ -3,6 +3,7 @@ pub mod Cars
 pub mod Lists
 pub mod Kept
 pub mod Leaves
+pub mod CarsLeft
 pub mod Back
 pub mod Paper
 pub mod PaperBack
