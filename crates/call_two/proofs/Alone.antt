@@ -3,7 +3,7 @@ use mathlib.Core.Path.{_≡_, _∙_, refl, ap, sym, subst}
 use mathlib.Core.Bool.{Bool, true, false}
 use mathlib.Core.Logic.{_⊎_, inl, inr}
 use mathlib.Core.List.{List, [], _∷_}
-use Prim.Native.Nat.{ℕ, zero, suc, _+_, _/_, _%_, _<_, _≤_}
+use Prim.Native.Nat.{ℕ, zero, suc, _+_, _/_, _%_, _≤_}
 use native.Mathlib.Omega.{arith}
 use lib.Dec.{ltb, eqb}
 use lib.ListN.{length, take, drop}
@@ -12,7 +12,7 @@ use borrow.Author.Tests.{ltb-false}
 use Rattle.lent.specs.Lent.{pick, failsFrom, pastedOf}
 use Rattle.lent.specs.Outcome.{outcome}
 use Rattle.lent.specs.declared.Found.{Found}
-use Rattle.lent.proofs.Laws.{test, by-test, by-choice, never, pasted-front}
+use Rattle.lent.proofs.Laws.{test, by-test, by-choice, pasted-front}
 use Rattle.refusal.specs.declared.Refusal.{Refusal}
 use Rattle.refusal.specs.Refusal.{numberOf}
 use Rattle.sh_state.specs.declared.machine.Machine.{Machine}
@@ -24,8 +24,8 @@ use Rattle.sh_run.specs.declared.Stop.{Stop}
 use Rattle.sh_run.specs.Run.{Ran, runOf}
 use Rattle.sh_run.proofs.Keeps.{run-judged}
 use Rattle.sh_run.specs.declared.Stop.the-variants as stops
-use Rattle.sh_two.specs.Two.{entriesOf, Car, car, carRan, ownOf, startOf, Two, twoOf}
-use Rattle.sh_two.proofs.Cars.{carOf, as-one-car}
+use Rattle.sh_two.specs.Two.{entriesOf, Car, car, carRan, ofCar, ownOf, startOf, Two, twoOf}
+use Rattle.sh_two.proofs.Cars.{as-one-car}
 use Rattle.call_run.specs.declared.Reason.{Reason}
 use Rattle.call_run.specs.Run.{RunAnswered, reasonOf, runToldOf, runFoundOf, runJudgedOf, runCallOf}
 use Rattle.body.specs.Body.{told, wiringJudged}
@@ -34,7 +34,8 @@ use Rattle.picture.specs.Picture.{litOf, shownOf, drawOf, drawnOf, pictureOf}
 use Rattle.picture.proofs.Pictures.{one-per-element}
 use Rattle.call_two.specs.declared.Outcome.{Outcome}
 use Rattle.call_two.specs.Script.{eventFits, eventsJudged}
-use Rattle.call_two.specs.RunTwo.{Lent, lent, lowerOf, lowestOf, carsLentJudged, scriptJudged, roomJudged, twoJudged, Answered, answered, leftOf, endedOf, ranOf, runTwoOf}
+use Rattle.call_two.specs.Statement.{Comes, Alike}
+use Rattle.call_two.specs.RunTwo.{Lent, lowerOf, lowestOf, carsLentJudged, scriptJudged, roomJudged, twoJudged, Answered, answered, leftOf, bothLeftOf, ranOf, runTwoOf}
 
 -- ---- What a call that is done was judged by ----
 
@@ -70,11 +71,6 @@ events-none Found.Nothing e = refl
 room-enough : (wiring room : List ℕ) → roomJudged wiring room ≡ Judged.Fine → ltb (length room) (length wiring / 3) ≡ false
 unfolding roomJudged
 room-enough wiring room = by-test (λ (j : Judged). j ≡ Judged.Fine → ltb (length room) (length wiring / 3) ≡ false) (ltb (length room) (length wiring / 3)) _ _ (λ _. refused-not-fine) (λ f _. f)
-
--- what is lent for one of two cars
-abbrev pub ofCar : {A : Type 0} → ℕ → A → A → A
-ofCar zero a b = a
-ofCar (suc k) a b = b
 
 -- what the call was judged by, of either car
 record Done (p wiring script : List ℕ) (s : State) (room : List ℕ) : Type 0 where
@@ -149,13 +145,6 @@ module _ (p wiring script : List ℕ) (s : State) (room : List ℕ) (d : Done p 
       let fits : length shown ≤ length room = omega (arith, n, ltb-false (length room) (length wiring / 3) (d .enough)) in
       rw (drawn, pasted-front room shown fits, ← n) (take-append-seam shown (drop (length shown) room))
 
--- WHAT COMES OF A CAR, where the call is done: what the calls run and picture give for it
-pub record Comes (p wiring script : List ℕ) (k stop : ℕ) (before : Lent) (why : Stop) (left : Lent) : Type 0 where
-  pub state : left .current ≡ runCallOf p (before .current) (ownOf k (entriesOf script)) stop .after
-  pub reason : runCallOf p (before .current) (ownOf k (entriesOf script)) stop .reason ≡ reasonOf why (left .current .machine)
-  pub room : outcome (Drawn.Elements (length wiring / 3)) (left .room) ≡ pictureOf (left .current) wiring (before .room)
-  pub picture : take (length wiring / 3) (left .room) ≡ shownOf (litOf (left .current)) (left .current .memory) wiring
-
 module _ (p wiring script : List ℕ) (k stop : ℕ) (before : Lent) (d : Done p wiring script (before .current) (before .room)) where
   abbrev ran : Ran
   ran = runOf p stop (ownOf k (entriesOf script)) (before .current) 0
@@ -203,31 +192,25 @@ module _ (p wiring : List ℕ) (a : Lent) (stop : ℕ) (b : Lent) (stop1 : ℕ) 
     unfolding runTwoOf
     fine = done-judged (twoJudged p wiring a b script) e
 
-    ended : called ≡ endedOf wiring ranBoth (a .room) (b .room)
+    ended : called ≡ bothLeftOf wiring ranBoth (a .room) (b .room)
     unfolding runTwoOf ranOf
     ended = rw fine
 
-    reason-told : (k : ℕ) → reasonIn k v (endedOf wiring ranBoth (a .room) (b .room) .outcome) ≡ ofCar k v w
+    reason-told : (k : ℕ) → reasonIn k v (bothLeftOf wiring ranBoth (a .room) (b .room) .outcome) ≡ ofCar k v w
     unfolding reasonIn
     reason-told k = ap (λ (o : Outcome). reasonIn k v o) (sym (ap (λ (r : Answered). r .outcome) ended) ∙ e)
 
-    left-as : (k : ℕ) → ofCar k (called .first) (called .second) ≡ ofCar k (endedOf wiring ranBoth (a .room) (b .room) .first) (endedOf wiring ranBoth (a .room) (b .room) .second)
+    left-as : (k : ℕ) → ofCar k (called .first) (called .second) ≡ ofCar k (bothLeftOf wiring ranBoth (a .room) (b .room) .first) (bothLeftOf wiring ranBoth (a .room) (b .room) .second)
     left-as k = ap (λ (r : Answered). ofCar k (r .first) (r .second)) ended
 
     -- EITHER CAR, by one law
     pub comes : (k : ℕ) → Comes p wiring script (ofCar k 0 1) (ofCar k stop stop1) (ofCar k a b) (ofCar k v w) (ofCar k (called .first) (called .second))
-    unfolding endedOf reasonIn
+    unfolding bothLeftOf reasonIn
     comes k = comes-at (reason-told k) (left-as k) (by-cases k)
       where
-        by-cases : (i : ℕ) → Comes p wiring script (ofCar i 0 1) (ofCar i stop stop1) (ofCar i a b) (ofCar i (ranBoth .after .first .why) (ranBoth .after .second .why)) (ofCar i (endedOf wiring ranBoth (a .room) (b .room) .first) (endedOf wiring ranBoth (a .room) (b .room) .second))
+        by-cases : (i : ℕ) → Comes p wiring script (ofCar i 0 1) (ofCar i stop stop1) (ofCar i a b) (ofCar i (ranBoth .after .first .why) (ranBoth .after .second .why)) (ofCar i (bothLeftOf wiring ranBoth (a .room) (b .room) .first) (bothLeftOf wiring ranBoth (a .room) (b .room) .second))
         by-cases zero = comes-by p wiring script 0 stop a (done-of zero p wiring a b script fine) (as-one-car zero p (entriesOf script) (startOf stop (a .current) stop1 (b .current)) 0 refl)
         by-cases (suc i) = comes-by p wiring script 1 stop1 b (done-of (suc i) p wiring a b script fine) (as-one-car (suc i) p (entriesOf script) (startOf stop (a .current) stop1 (b .current)) 0 refl)
-
--- INDEPENDENCE: two calls that are done, of one program and one wiring, in which this car starts alike and has the same stop address and entries, whatever the other car, its entries and the rooms: its machine, memory, picture and stop reason are alike
-pub record Alike (wiring : List ℕ) (why why' : Stop) (left left' : Lent) : Type 0 where
-  pub state : left .current ≡ left' .current
-  pub reason : why ≡ why'
-  pub picture : take (length wiring / 3) (left .room) ≡ take (length wiring / 3) (left' .room)
 
 -- a reason tells its stop
 stopIn : Reason → Stop
@@ -245,7 +228,7 @@ pub alike : {p wiring script script' : List ℕ} {k stop : ℕ} {before before' 
     Comes p wiring script k stop before why left → Comes p wiring script' k stop before' why' left' → before .current ≡ before' .current → ownOf k (entriesOf script) ≡ ownOf k (entriesOf script') → Alike wiring why why' left left'
 alike {p} {wiring} {script} {script'} {k} {stop} {before} {before'} {why} {why'} {left} {left'} h g e f =
     let q : runCallOf p (before .current) (ownOf k (entriesOf script)) stop ≡ runCallOf p (before' .current) (ownOf k (entriesOf script')) stop =
-        ap (λ (s : State). runCallOf p s (ownOf k (entriesOf script)) stop) e ∙ ap (λ (l : List ℕ). runCallOf p (before' .current) l stop) f in
+    ap (λ (s : State). runCallOf p s (ownOf k (entriesOf script)) stop) e ∙ ap (λ (l : List ℕ). runCallOf p (before' .current) l stop) f in
     let same = h .state ∙ (ap (λ (o : RunAnswered). o .after) q ∙ sym (g .state)) in
     let told = sym (h .reason) ∙ (ap (λ (o : RunAnswered). o .reason) q ∙ g .reason) in
     record {
@@ -254,6 +237,7 @@ alike {p} {wiring} {script} {script'} {k} {stop} {before} {before'} {why} {why'}
       picture = h .picture ∙ (ap (λ (s : State). shownOf (litOf s) (s .memory) wiring) same ∙ sym (g .picture));
     }
 
+-- INDEPENDENCE
 pub independent : (k : ℕ) (p wiring : List ℕ)
     (a : Lent) (stop : ℕ) (b : Lent) (stop1 : ℕ) (script : List ℕ) (v w : Stop) (n : ℕ) → runTwoOf p wiring a stop b stop1 script .outcome ≡ Outcome.Ended v w n →
     (a' : Lent) (stop' : ℕ) (b' : Lent) (stop1' : ℕ) (script' : List ℕ) (v' w' : Stop) (n' : ℕ) → runTwoOf p wiring a' stop' b' stop1' script' .outcome ≡ Outcome.Ended v' w' n' →
@@ -270,7 +254,7 @@ independent k p wiring a stop b stop1 script v w n e a' stop' b' stop1' script' 
 -- "before anything moves": what is refused leaves what was lent
 module _ (p wiring : List ℕ) (a : Lent) (stop : ℕ) (b : Lent) (stop1 : ℕ) (script : List ℕ) (why : Refusal) where
   judged-leaves : (j : Judged) → ranOf p wiring a stop b stop1 script j .outcome ≡ Outcome.Refused why → ranOf p wiring a stop b stop1 script j ≡ answered (Outcome.Refused why) a b
-  unfolding ranOf endedOf
+  unfolding ranOf bothLeftOf
   judged-leaves Judged.Fine e = refused-not-ended (sym e)
   judged-leaves (Judged.Refused other) e = ap (λ (o : Outcome). answered o a b) e
 

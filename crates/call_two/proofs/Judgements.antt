@@ -16,7 +16,7 @@ use Rattle.sh_rules.specs.declared.judge.Judged.{Judged}
 use Rattle.sh_rules.specs.Judge.{firstOf}
 use Rattle.body.specs.Body.{told, wiringJudged}
 use Rattle.call_two.specs.Script.{eventsJudged, carsJudged, cutJudged, fineOf}
-use Rattle.call_two.specs.RunTwo.{Lent, lent, lowerOf, lowestOf, scriptJudged, Answered, answered, leftOf, endedOf, twoJudged, ranOf, runTwoOf}
+use Rattle.call_two.specs.RunTwo.{Lent, lent, lowerOf, lowestOf, scriptJudged, Answered, answered, leftOf, bothLeftOf, twoJudged, ranOf, runTwoOf}
 use Rattle.call_two.proofs.Scripts.{fine-events, fine-cars, fine-whole}
 
 pub events-at : {f g : Found} {r : Judged} → f ≡ g → r ≡ eventsJudged g → r ≡ eventsJudged f
@@ -48,8 +48,8 @@ lower-first v w {a} {b} p q h = rw (← p, ← q, le-ltb a b h)
 
 -- what a run leaves, with a picture of each car
 pub cars-left : (wiring room room1 : List ℕ) {r t : sh.Two} {v w : Outcome Drawn} → r ≡ t → v ≡ pictureOf (r .after .first .current) wiring room → w ≡ pictureOf (r .after .second .current) wiring room1 →
-    answered (Ended (r .after .first .why) (r .after .second .why) (r .entries)) (lent (r .after .first .current) (v .room)) (lent (r .after .second .current) (w .room)) ≡ endedOf wiring t room room1
-unfolding endedOf leftOf
+    answered (Ended (r .after .first .why) (r .after .second .why) (r .entries)) (lent (r .after .first .current) (v .room)) (lent (r .after .second .current) (w .room)) ≡ bothLeftOf wiring t room room1
+unfolding bothLeftOf leftOf
 cars-left wiring room room1 e f g = rw (← e, f, g)
 
 first-fine : (a : Judged) → firstOf a Judged.Fine ≡ a

@@ -6,8 +6,8 @@ use Prim.Native.Nat.{ℕ, zero, suc, _+_, _-_, _*_, _/_, _%_, _<_, _≤_}
 use native.Mathlib.Omega.{arith}
 use lib.Dec.{ltb, eqb}
 use lib.ListN.{length, drop, length-drop}
-use borrow.Author.Tests.{lt-ltb, eq-eqb, ne-eqb}
-use Rattle.lent.specs.Lent.{pick, both, at, joinedOf, failsFrom}
+use borrow.Author.Tests.{lt-ltb}
+use Rattle.lent.specs.Lent.{both, at, joinedOf, failsFrom}
 use Rattle.lent.specs.declared.Found.{Found}
 use Rattle.lent.proofs.Laws.{drop-more, both-true, never}
 use Rattle.lent.proofs.Bits.{joined-above}

@@ -1,2 +1,3 @@
 pub mod Script
 pub mod RunTwo
+pub mod Statement

@@ -7,12 +7,14 @@ use Rattle.lent.specs.Lent.{pick, failsFrom}
 use Rattle.refusal.specs.declared.Refusal.{Refusal}
 use Rattle.refusal.specs.declared.Refusal.the-variants as refusal
 use Rattle.refusal.specs.Refusal.{numberOf}
+use Rattle.refusal.specs.Told.{Said, doneTold, refusedTold}
 use Rattle.sh_state.specs.State.{State}
 use Rattle.sh_rules.specs.declared.judge.Judged.{Judged}
 use Rattle.sh_rules.specs.declared.judge.Judged.the-variants.{Fine, Refused}
 use Rattle.sh_rules.specs.Judge.{firstOf, stateJudged}
 use Rattle.body.specs.Body.{told, wiringJudged}
 use Rattle.picture.specs.Picture.{pictureOf}
+use Rattle.sh_run.specs.Run.{stopNumber}
 use Rattle.sh_two.specs.Two as sh
 use Rattle.call_two.specs.declared.Outcome.{Outcome}
 use Rattle.call_two.specs.Script.{eventFits, carFits, eventsJudged, carsJudged, cutJudged}
@@ -66,16 +68,30 @@ answered o a b = record { outcome = o; first = a; second = b }
 unfoldable pub leftOf : List ℕ → sh.Car → List ℕ → Lent
 leftOf wiring c room = lent (c .current) (pictureOf (c .current) wiring room .room)
 
-unfoldable pub endedOf : List ℕ → sh.Two → List ℕ → List ℕ → Answered
-endedOf wiring r room room1 =
+unfoldable pub bothLeftOf : List ℕ → sh.Two → List ℕ → List ℕ → Answered
+bothLeftOf wiring r room room1 =
     answered (Outcome.Ended (r .after .first .why) (r .after .second .why) (r .entries))
     (leftOf wiring (r .after .first) room) (leftOf wiring (r .after .second) room1)
 
 unfoldable pub ranOf : List ℕ → List ℕ → Lent → ℕ → Lent → ℕ → List ℕ → Judged → Answered
 ranOf p wiring a stop b stop1 script Fine =
-    endedOf wiring (sh.twoOf p (sh.entriesOf script) (sh.startOf stop (a .current) stop1 (b .current)) 0) (a .room) (b .room)
+    bothLeftOf wiring (sh.twoOf p (sh.entriesOf script) (sh.startOf stop (a .current) stop1 (b .current)) 0) (a .room) (b .room)
 ranOf p wiring a stop b stop1 script (Refused why) = answered (Outcome.Refused why) a b
 
 -- THE RUN OF TWO CARS: what it answers, and what it leaves each car with
 unfoldable pub runTwoOf : List ℕ → List ℕ → Lent → ℕ → Lent → ℕ → List ℕ → Answered
 runTwoOf p wiring a stop b stop1 script = ranOf p wiring a stop b stop1 script (twoJudged p wiring a b script)
+
+-- what is told of it: why each car stopped, and how many entries were read; a refusal leaves what stood there
+pub record Outs : Type 0 where
+  pub told : Said
+  pub reason : ℕ
+  pub reason1 : ℕ
+  pub entries : ℕ
+
+abbrev pub outs : Said → ℕ → ℕ → ℕ → Outs
+outs t reason reason1 entries = record { told = t; reason = reason; reason1 = reason1; entries = entries }
+
+unfoldable pub outsOf : Outcome → ℕ → ℕ → ℕ → Outs
+outsOf (Outcome.Ended v w n) reason reason1 entries = outs doneTold (stopNumber v) (stopNumber w) n
+outsOf (Outcome.Refused why) reason reason1 entries = outs (refusedTold why) reason reason1 entries

@@ -9,7 +9,7 @@ use sh_state::machine::Machine;
 ghost use mathlib.Core.Path.{_≡_};
 ghost use Rattle.sh_state.specs.State.{state};
 ghost use Rattle.sh_two.specs.Two.{entriesOf, startOf, twoOf};
-ghost use Rattle.call_two.specs.RunTwo.{lent, lowerOf, lowestOf, carsLentJudged, scriptJudged, roomJudged, twoJudged, answered, endedOf, ranOf, runTwoOf};
+ghost use Rattle.call_two.specs.RunTwo.{lent, lowerOf, lowestOf, carsLentJudged, scriptJudged, roomJudged, twoJudged, answered, bothLeftOf, ranOf, runTwoOf};
 
 // Why each car stopped and how many entries were read, or the refusal.
 pub enum Outcome {
@@ -34,7 +34,7 @@ fn lower(v: Refusal, w: Refusal) -> Judged
     Judged::Refused(v)
 }
 
-// The judgement of both cars: what turns car 0 down, beside what turns car 1 down.
+// What turns car 0 down, beside the judgement of car 1.
 fn beside(v: Refusal, b: Judged) -> Judged
     ensures { λ r. ⌜ r ≡ lowestOf (Judged.Refused v) b ⌝ }
 {
@@ -44,6 +44,7 @@ fn beside(v: Refusal, b: Judged) -> Judged
     }
 }
 
+// Of two cars' judgements the one with the lower number, and at equal numbers car 0's.
 pub fn lowest(a: Judged, b: Judged) -> Judged
     ensures { λ r. ⌜ r ≡ lowestOf a b ⌝ }
 {
@@ -134,7 +135,7 @@ fn ended(
     stop1: u32,
     script: &[u8],
 ) -> Answer
-    ensures { λ r. ⌜ answered (r .outcome) (lent (state (r .first) (now (memory .exit))) (now (room .exit))) (lent (state (r .second) (now (memory1 .exit))) (now (room1 .exit))) ≡ endedOf (now (wiring .entry)) (twoOf (now (program .entry)) (entriesOf (now (script .entry))) (startOf stop (state m (now (memory .entry))) stop1 (state m1 (now (memory1 .entry)))) 0) (now (room .entry)) (now (room1 .entry)) ⌝ }
+    ensures { λ r. ⌜ answered (r .outcome) (lent (state (r .first) (now (memory .exit))) (now (room .exit))) (lent (state (r .second) (now (memory1 .exit))) (now (room1 .exit))) ≡ bothLeftOf (now (wiring .entry)) (twoOf (now (program .entry)) (entriesOf (now (script .entry))) (startOf stop (state m (now (memory .entry))) stop1 (state m1 (now (memory1 .entry)))) 0) (now (room .entry)) (now (room1 .entry)) ⌝ }
 {
     let e = sh_two::run(program, m, memory, stop, m1, memory1, stop1, script);
     let n = e.first;

@@ -15,11 +15,11 @@ use Rattle.sh_state.specs.State.{state}
 use Rattle.sh_rules.specs.declared.judge.Judged.{Judged}
 use Rattle.sh_rules.specs.Judge.{judgedTold}
 use Rattle.call_two.specs.declared.Outcome.{Outcome}
-use Rattle.call_two.specs.RunTwo.{lent, lowestOf, Answered, runTwoOf}
+use Rattle.call_two.specs.RunTwo.{lent, lowestOf, Answered, runTwoOf, Outs, outs, outsOf}
 use Rattle.wire.specs.Record.{recordOf, bytesOf}
 use Rattle.wire.specs.Words.{wordsOf}
 use Rattle.wire.proofs.Laws.{record-whole}
-use Rattle.host.specs.RunTwo.{CarBytes, carBytes, Outs, outs, outsOf, TwoRan, twoRan, readCar, twoTold, carJudged, shortTwo, hostRunTwoOf}
+use Rattle.host.specs.RunTwo.{carBytes, TwoRan, twoRan, readCar, twoTold, carJudged, shortTwo, hostRunTwoOf}
 
 pub outs-at : {i j : Outcome} {r : Outs} (reason reason1 entries : ℕ) → i ≡ j → r ≡ outsOf j reason reason1 entries → r ≡ outsOf i reason reason1 entries
 outs-at reason reason1 entries p q = q ∙ sym (ap (λ (k : Outcome). outsOf k reason reason1 entries) p)

@@ -1,6 +1,5 @@
 -- "A refusal changes no lent byte" (01, the table; 02, P5: "before anything moves"), of the run of two cars at the C boundary.
-use mathlib.Core.Path.{_≡_, _∙_, refl, ap}
-use mathlib.Core.Bool.{Bool, true, false}
+use mathlib.Core.Path.{_≡_, refl, ap}
 use mathlib.Core.List.{List}
 use Prim.Native.Nat.{ℕ}
 use lib.Dec.{eqb}
@@ -10,12 +9,11 @@ use Rattle.lent.proofs.Laws.{by-test, by-eq}
 use Rattle.refusal.specs.declared.Refusal.{Refusal}
 use Rattle.refusal.specs.Told.{doneTold, refusedTold}
 use Rattle.call_two.specs.declared.Outcome.{Outcome}
-use Rattle.call_two.specs.RunTwo.{Lent, Answered, answered, runTwoOf}
+use Rattle.call_two.specs.RunTwo.{Answered, answered, runTwoOf, outs, outsOf}
 use Rattle.call_two.proofs.Alone.{refused-leaves}
-use Rattle.wire.specs.Record.{recordOf, bytesOf}
 use Rattle.wire.specs.Words.{wordsOf}
 use Rattle.wire.proofs.Trips.{back-and-there}
-use Rattle.host.specs.RunTwo.{CarBytes, carBytes, outs, outsOf, TwoRan, twoRan, readCar, writtenCar, twoTold, hostRunTwoOf}
+use Rattle.host.specs.RunTwo.{CarBytes, carBytes, TwoRan, twoRan, readCar, writtenCar, twoTold, hostRunTwoOf}
 use Rattle.host.proofs.Leaves.{Bytes}
 use Rattle.host.proofs.Cars.{whole-records}
 

@@ -5,13 +5,11 @@ use lib.Dec.{eqb}
 use lib.ListN.{length}
 use Rattle.lent.specs.Lent.{pick, both}
 use Rattle.refusal.specs.declared.Refusal.{Refusal}
-use Rattle.refusal.specs.Told.{Said, doneTold, refusedTold}
+use Rattle.refusal.specs.Told.{Said, refusedTold}
 use Rattle.sh_state.specs.State.{state}
 use Rattle.sh_rules.specs.declared.judge.Judged.{Judged}
 use Rattle.sh_rules.specs.Judge.{firstOf, memoryJudged, stateJudged, judgedTold}
-use Rattle.sh_run.specs.Run.{stopNumber}
-use Rattle.call_two.specs.declared.Outcome.{Outcome}
-use Rattle.call_two.specs.RunTwo.{Lent, lent, lowestOf, Answered, runTwoOf}
+use Rattle.call_two.specs.RunTwo.{Lent, lent, lowestOf, Answered, runTwoOf, Outs, outs, outsOf}
 use Rattle.wire.specs.Record.{recordOf, bytesOf}
 use Rattle.wire.specs.Words.{wordsOf}
 
@@ -23,20 +21,6 @@ pub record CarBytes : Type 0 where
 
 abbrev pub carBytes : List ℕ → List ℕ → List ℕ → CarBytes
 carBytes l b o = record { memory = l; bytes = b; room = o }
-
--- what is said, why each car stopped, and how many entries were read
-pub record Outs : Type 0 where
-  pub told : Said
-  pub reason : ℕ
-  pub reason1 : ℕ
-  pub entries : ℕ
-
-abbrev pub outs : Said → ℕ → ℕ → ℕ → Outs
-outs t reason reason1 entries = record { told = t; reason = reason; reason1 = reason1; entries = entries }
-
-unfoldable pub outsOf : Outcome → ℕ → ℕ → ℕ → Outs
-outsOf (Outcome.Ended v w n) reason reason1 entries = outs doneTold (stopNumber v) (stopNumber w) n
-outsOf (Outcome.Refused why) reason reason1 entries = outs (refusedTold why) reason reason1 entries
 
 pub record TwoRan : Type 0 where
   pub said : Outs

@@ -13,10 +13,10 @@ ghost use Rattle.refusal.specs.Told.{said, doneTold};
 ghost use Rattle.sh_state.specs.State.{state};
 ghost use Rattle.sh_rules.specs.Judge.{stateJudged};
 ghost use Rattle.sh_run.specs.Run.{stopNumber};
-ghost use Rattle.call_two.specs.RunTwo.{runTwoOf};
+ghost use Rattle.call_two.specs.RunTwo.{runTwoOf, outs, outsOf};
 ghost use Rattle.wire.specs.Record.{recordOf};
 ghost use Rattle.wire.specs.Words.{wordsOf};
-ghost use Rattle.host.specs.RunTwo.{carBytes, outs, outsOf, twoRan, readCar, twoTold, shortJudged, carJudged, shortTwo, hostRunTwoOf};
+ghost use Rattle.host.specs.RunTwo.{carBytes, twoRan, readCar, twoTold, shortJudged, carJudged, shortTwo, hostRunTwoOf};
 
 fn number(why: Stop) -> u32
     ensures { λ r. ⌜ r ≡ stopNumber why ⌝ }

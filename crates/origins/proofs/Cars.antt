@@ -11,9 +11,9 @@ use Rattle.lent.proofs.Laws.{by-choice, by-eq}
 use Rattle.sh_map.specs.Map.{askableOf}
 use Rattle.sh_state.specs.State.{State}
 use Rattle.sh_run.specs.Run.{runOf}
-use Rattle.sh_two.specs.Two.{entriesOf, ownOf}
+use Rattle.sh_two.specs.Two.{ofCar, entriesOf, ownOf}
 use Rattle.call_two.specs.RunTwo.{Lent, Answered, runTwoOf}
-use Rattle.call_two.proofs.Alone.{ofCar, left-or-run}
+use Rattle.call_two.proofs.Alone.{left-or-run}
 use Rattle.wire.specs.Words.{wordsOf}
 use Rattle.host.specs.RunTwo.{CarBytes, readCar, TwoRan, twoTold, hostRunTwoOf}
 use Rattle.origins.specs.Origin.{Origin}
@@ -70,8 +70,8 @@ module _ (body wiring : List ℕ) (a b : CarBytes) (script : List ℕ) (stop sto
   told-digit d =
       let m = told-memory k (runTwoOf p wiring (readCar a) stop (readCar b) stop1 script) reason reason1 entries in
       let o =
-          two-digit script stop stop1 k c h p wiring (readCar a) (readCar b)
-          (λ f. d (ap (λ (l : List ℕ). at l c) m ∙ (f ∙ ap (λ (l : List ℕ). at l c) (read-memory k a b)))) in
+      two-digit script stop stop1 k c h p wiring (readCar a) (readCar b)
+      (λ f. d (ap (λ (l : List ℕ). at l c) m ∙ (f ∙ ap (λ (l : List ℕ). at l c) (read-memory k a b)))) in
       (m ∙ ap (λ (s : State). s .memory) (o .0), o .1)
 
   pub host-two-digit : Digit called

@@ -1,22 +1,20 @@
 -- A car by itself: once stopped it stays, and its own entries, run as a one-car run takes them, tell what comes of it.
-use mathlib.Core.Path.{_≡_, _∙_, refl, ap, sym}
-use mathlib.Core.Bool.{Bool, true, false, not}
-use mathlib.Core.List.{List, [], _∷_, _++_, append-nil}
-use Prim.Native.Nat.{ℕ, _+_, _-_, _<_, _≤_}
+use mathlib.Core.Path.{_≡_, refl}
+use mathlib.Core.Bool.{true, false}
+use mathlib.Core.List.{List, [], _∷_, _++_}
+use Prim.Native.Nat.{ℕ, _+_, _-_, _<_}
 use native.Mathlib.Omega.{arith}
 use lib.Dec.{eqb}
-use lib.ListN.{length}
 use borrow.Author.Tests.{ne-eqb}
-use Rattle.lent.specs.Lent.{pick, both}
-use Rattle.lent.proofs.Laws.{test, never}
+use Rattle.lent.proofs.Laws.{test}
 use Rattle.sh_state.specs.State.{State}
 use Rattle.sh_events.specs.Event.{eventOf}
 use Rattle.sh_run.specs.declared.Stop.{Stop}
 use Rattle.sh_run.specs.declared.Stop.the-variants as stop
-use Rattle.sh_run.specs.Run.{Ran, ran, reachedOf, runOf}
+use Rattle.sh_run.specs.Run.{Ran, reachedOf, runOf}
 use Rattle.sh_two.specs.Two.{Entry, Car, car, carRan, stoppedOf, takenOf, ownOf}
-use Rattle.sh_two.specs.Alone.{Alone, alone, aloneOf, onOf, throughOf, readOf}
-use Rattle.sh_two.proofs.Runs.{more, counted-on, reached-counted}
+use Rattle.sh_two.specs.Alone.{aloneOf, onOf, throughOf, readOf}
+use Rattle.sh_two.proofs.Runs.{counted-on, reached-counted}
 
 -- an entry of the other car
 pub other's : (p : List ℕ) (x : Entry) (c : Car) → eqb (x .car) (c .number) ≡ false → takenOf p x c ≡ c

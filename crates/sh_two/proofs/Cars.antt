@@ -2,17 +2,17 @@
 use mathlib.Core.Path.{_≡_, _∙_, refl, ap, sym}
 use mathlib.Core.Bool.{Bool, true, false}
 use mathlib.Core.List.{List, [], _∷_, append-nil}
-use Prim.Native.Nat.{ℕ, zero, suc, _+_, _<_, _≤_}
+use Prim.Native.Nat.{ℕ, zero, suc, _+_, _≤_}
 use native.Mathlib.Omega.{arith}
 use native.Mathlib.Nat.{le-refl}
-use borrow.Author.Tests.{lt-ltb, le-ltb}
-use Rattle.lent.specs.Lent.{pick, both}
+use borrow.Author.Tests.{le-ltb}
+use Rattle.lent.specs.Lent.{both}
 use Rattle.lent.proofs.Laws.{test, by-choice, by-lt}
 use Rattle.sh_state.specs.State.{State}
 use Rattle.sh_run.specs.declared.Stop.{Stop}
 use Rattle.sh_run.specs.declared.Stop.the-variants as stop
 use Rattle.sh_run.specs.Run.{runOf}
-use Rattle.sh_two.specs.Two.{Entry, Car, car, carRan, stoppedOf, takenOf, Cars, cars, passedOf, endedOf, Two, two, twoOf, ownOf}
+use Rattle.sh_two.specs.Two.{Entry, Car, car, carRan, stoppedOf, takenOf, Cars, cars, ofCar, passedOf, endedOf, Two, two, twoOf, ownOf}
 use Rattle.sh_two.specs.Alone.{Alone, alone, aloneOf, onOf, laterOf}
 use Rattle.sh_two.proofs.ByItself.{stays, by-parts}
 
@@ -93,10 +93,8 @@ alone-own p xs k target s n =
     ap (λ (l : List Entry). aloneOf p l (car k target s stop.End) n .after) (sym (append-nil xs))
     ∙ (ap (λ (r : Alone). r .after) (by-parts p k target xs [] s n) ∙ on-none p _ _)
 
--- one of two cars
 abbrev pub carOf : ℕ → Cars → Car
-carOf zero cs = cs .first
-carOf (suc k) cs = cs .second
+carOf k cs = ofCar k (cs .first) (cs .second)
 
 carOf-apart : (k : ℕ) (p : List ℕ) (xs : List Entry) (cs : Cars) (n : ℕ) → carOf k (twoOf p xs cs n .after) ≡ aloneOf p xs (carOf k cs) n .after
 carOf-apart zero p xs cs n = ap (λ (r : Two). r .after .first) (by-themselves p xs (cs .first) (cs .second) n)

@@ -1,18 +1,17 @@
 -- A part of the entries, as the run finds it: the car has stopped there, or goes on behind it.
-use mathlib.Core.Path.{_≡_, _∙_, refl, ap, sym, subst}
+use mathlib.Core.Path.{_≡_, _∙_, refl, ap, sym}
 use mathlib.Core.Bool.{Bool, true, false}
-use mathlib.Core.List.{List, [], _∷_, _++_}
-use Prim.Native.Nat.{ℕ, _+_, _-_, _*_, _/_, _<_, _≤_}
+use mathlib.Core.List.{List}
+use Prim.Native.Nat.{ℕ, _+_, _-_, _/_, _<_, _≤_}
 use native.Mathlib.Omega.{arith}
 use lib.ListN.{length}
-use Rattle.lent.specs.Lent.{pick}
 use Rattle.lent.proofs.Laws.{test, never}
 use Rattle.sh_state.specs.State.{State}
 use Rattle.sh_run.specs.declared.Stop.{Stop}
 use Rattle.sh_run.specs.declared.Stop.the-variants as stop
 use Rattle.sh_run.specs.Run.{Ran, runOf}
-use Rattle.sh_two.specs.Two.{Entry, entriesOf, Car, car, carRan, stoppedOf, ownOf}
-use Rattle.sh_two.specs.Alone.{Alone, alone, aloneOf, onOf, from, partOf, readOf, Parted}
+use Rattle.sh_two.specs.Two.{Entry, Car, car, carRan, stoppedOf, ownOf}
+use Rattle.sh_two.specs.Alone.{alone, aloneOf, onOf, from, partOf, readOf, Parted}
 use Rattle.sh_two.proofs.ByItself.{by-parts}
 use Rattle.sh_two.proofs.Parts.{part-length, part-rest, from-end}
 

@@ -1,15 +1,13 @@
 -- The entries of a script by their places, as the loops find them.
 use mathlib.Core.Path.{_≡_, _∙_, refl, ap, subst}
-use mathlib.Core.Bool.{Bool, true, false}
 use mathlib.Core.List.{List, [], _∷_, _++_, append-nil}
 use Prim.Native.Nat.{ℕ, zero, suc, _+_, _-_, _*_, _/_, _<_, _≤_}
 use native.Mathlib.Omega.{arith}
 use native.Mathlib.Numerals.{add-one}
-use lib.Dec.{eqb}
 use lib.ListN.{length, take, drop, set, length-drop}
 use lib.Seq.{take-suc-set, take-set-le, append-snoc}
 use borrow.Author.Tests.{eq-eqb, ne-eqb}
-use Rattle.lent.specs.Lent.{at, pick}
+use Rattle.lent.specs.Lent.{at}
 use Rattle.lent.proofs.Laws.{drop-more}
 use Rattle.sh_two.specs.Two.{Entry, entry, entriesOf, ownOf}
 use Rattle.sh_two.specs.Alone.{from, partOf, throughOf}

@@ -8,7 +8,7 @@ use lib.ListN.{length, take, drop}
 use Rattle.lent.specs.Lent.{pick}
 use Rattle.sh_run.specs.declared.Stop.{Stop}
 use Rattle.sh_run.specs.declared.Stop.the-variants as stop
-use Rattle.sh_two.specs.Two.{Entry, entriesOf, Car, stoppedOf, takenOf, ownOf}
+use Rattle.sh_two.specs.Two.{Entry, entriesOf, Car, stoppedOf, takenOf}
 
 -- a car as its entries leave it, and how many entries of both are read until it stops, or at the end
 pub record Alone : Type 0 where

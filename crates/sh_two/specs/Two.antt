@@ -1,5 +1,5 @@
 -- Two cars over one program (02, P5): what the entries of a script make of each, and how many are read.
-use Prim.Native.Nat.{ℕ, _+_}
+use Prim.Native.Nat.{ℕ, zero, suc, _+_}
 use mathlib.Core.Bool.{Bool, true, false, not}
 use mathlib.Core.List.{List, [], _∷_}
 use lib.Dec.{eqb}
@@ -55,6 +55,11 @@ pub record Cars : Type 0 where
 
 abbrev pub cars : Car → Car → Cars
 cars a b = record { first = a; second = b }
+
+-- what is one of two cars', of car 0 or of car 1
+abbrev pub ofCar : {A : Type 0} → ℕ → A → A → A
+ofCar zero a b = a
+ofCar (suc k) a b = b
 
 -- both go on, as cars 0 and 1
 abbrev pub startOf : ℕ → State → ℕ → State → Cars

@@ -1,5 +1,4 @@
 -- `call_two::room_judged`: one test.
-use borrow.Author.Needs.{needs}
 use borrow.Author.Tests.{lt-ltb, le-ltb}
 use Rattle.call_two.specs.RunTwo.{roomJudged}
 use Rattle.call_two.proofs.room_judged.Statement.{statement}

@@ -1,7 +1,7 @@
 -- `sh_two::by_itself`: the invariant is that the entries that are left make of the car what all of them do.
 use borrow.Author.Needs.{needs}
 use Prim.Native.Nat.{_-_, _/_, _≤_}
-use mathlib.Core.Path.{_≡_, _∙_, refl, ap, sym}
+use mathlib.Core.Path.{_≡_, _∙_, refl}
 use native.Mathlib.Omega.{arith}
 use lib.ListN.{length}
 use Rattle.sh_state.specs.State.{state}
@@ -11,8 +11,6 @@ use Rattle.sh_two.specs.Alone.{aloneOf, from}
 use Rattle.sh_two.proofs.Onward.{parted-stopped, parted-upto, parted-on, alone-end}
 use Rattle.sh_two.proofs.by_itself.Statement.{statement}
 use Rattle.sh_two.proofs.by_itself.Tie as tie
-use Rattle.sh_two.proofs.part.Reads as part-reads
-use Rattle.sh_two.proofs.stopped.Reads as stopped-reads
 
 abbrev Inv-loop : tie.InvT-loop
 Inv-loop program memory₀ script number target m₀ i₀ memory m i =

@@ -8,10 +8,6 @@ use Rattle.sh_two.proofs.Onward.{parted}
 use borrow.Author.Needs.{needs}
 use Rattle.sh_two.proofs.part.Statement.{statement}
 use Rattle.sh_two.proofs.part.Tie as tie
-use Rattle.sh_run.proofs.run.Reads as run-reads
-use Rattle.sh_two.proofs.end.Reads as end-reads
-use Rattle.sh_two.proofs.gather.Reads as gather-reads
-use Rattle.sh_two.proofs.read.Reads as read-reads
 
 end-requires : tie.Need-end-requires
 end-requires c κs = search needs

@@ -6,7 +6,6 @@ use Rattle.sh_two.proofs.Onward.{read-at}
 use borrow.Author.Needs.{needs}
 use Rattle.sh_two.proofs.read.Statement.{statement}
 use Rattle.sh_two.proofs.read.Tie as tie
-use Rattle.sh_two.proofs.through.Reads as through-reads
 
 enum-told : tie.Need-enum-told
 enum-told c = search needs

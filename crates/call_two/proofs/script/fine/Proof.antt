@@ -1,7 +1,7 @@
 -- `call_two::script::fine`: the invariant is that what was found and what is left give what is of the whole.
 use borrow.Author.Needs.{needs}
 use Prim.Native.Nat.{_≤_, _-_, _*_}
-use mathlib.Core.Path.{_≡_, _∙_, refl, sym}
+use mathlib.Core.Path.{_≡_, _∙_, refl}
 use native.Mathlib.Omega.{arith}
 use lib.ListN.{drop}
 use Rattle.lent.specs.Lent.{both}

@@ -9,8 +9,6 @@ use Rattle.call_two.specs.Script.{fineOf}
 use Rattle.call_two.proofs.Scripts.{part-on, entry-found, one-fine}
 use Rattle.call_two.proofs.script.fine_by_one.Statement.{statement}
 use Rattle.call_two.proofs.script.fine_by_one.Tie as tie
-use Rattle.lent.proofs.both.Reads as both-reads
-use Rattle.sh_known.proofs.known.Reads as known-reads
 
 abbrev Inv-loop : tie.InvT-loop
 Inv-loop script first end ok₀ i₀ ok i =

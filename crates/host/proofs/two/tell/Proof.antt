@@ -1,5 +1,5 @@
 -- `host::two::tell`: by the outcome.
-use Rattle.host.specs.RunTwo.{outsOf}
+use Rattle.call_two.specs.RunTwo.{outsOf}
 use Rattle.host.proofs.Cars.{outs-at, outs-said}
 use borrow.Author.Needs.{needs}
 use Rattle.host.proofs.two.tell.Statement.{statement}
