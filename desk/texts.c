@@ -316,8 +316,8 @@ static void add_events(struct growing *growing, const char *part, size_t length)
     if (growing->two_cars)
         need_car(growing, part, length);
     if (!event_from(part, name, &event))
-        fail("%s:%lu: %.*s is no event (desk run --help lists them)", growing->reader.path, growing->reader.line,
-             (int)length, part);
+        fail("%s:%lu: %.*s is no event (desk %s --help lists them)", growing->reader.path, growing->reader.line,
+             (int)length, part, growing->two_cars ? "run-two" : "run");
     times = times_of(&growing->reader, part, length, name);
     make_room(growing, from + 2);
     if (growing->two_cars)

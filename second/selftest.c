@@ -3241,7 +3241,8 @@ static void each_entry_has_its_car(void)
     static const uint8_t both[] = {0, CYCLE, 1, CYCLE, 0, CYCLE};
     static const uint8_t pins_of_1[] = {1, PIN_B | 5};
     static const uint8_t only_0[] = {0, CYCLE, 0, CYCLE, 0, CYCLE};
-    static const uint8_t pulses[] = {0, BASE_PULSE, 1, WATCHDOG_PULSE, 1, WATCHDOG_PULSE, 0, SOUND_CLOCK, 1, RESET_PIN};
+    static const uint8_t pulses[] = {0, BASE_PULSE, 1, WATCHDOG_PULSE, 1, WATCHDOG_PULSE, 0, SOUND_CLOCK};
+    static const uint8_t reset_of_1[] = {1, RESET_PIN};
 
     from("02, P5: an entry is the car and then the event");
     two_fresh();
@@ -3270,11 +3271,12 @@ static void each_entry_has_its_car(void)
         car[at].record[R_OPTIONS] = 1;
         set_pc_of(at, 0x123);
     }
-    ENDS(pulses, NO_STOP, NO_STOP, 2, 2, 0x123, 0, 5);
+    ENDS(pulses, NO_STOP, NO_STOP, 2, 2, 0x123, 0x123, 4);
     is("base counter of car 0", car[0].record[R_BASE_COUNTER], 1);
     is("base counter of car 1", car[1].record[R_BASE_COUNTER], 0);
     is("count of car 0's channel", car[0].record[R_COUNT_1 + 1], 126);
     is("count of car 1's channel", car[1].record[R_COUNT_1 + 1], 0);
+    ENDS(reset_of_1, NO_STOP, NO_STOP, 2, 2, 0x123, 0, 1);
     is("watchdog of car 0", car[0].record[R_WATCHDOG + 1], 0);
     is("watchdog of car 1 after its reset", car[1].record[R_WATCHDOG] << 8 | car[1].record[R_WATCHDOG + 1], 4096);
     is("$003 of car 0", car[0].memory[0x003], 8);
@@ -3465,7 +3467,7 @@ static void two_pictures(void)
     two_fresh();
     lent_wiring = one_lamp;
     lent_length.wiring = sizeof one_lamp;
-    is("room of its own size", run_two(nothing, 0, 0, 0), 0);
+    is("one lamp in a room of five", run_two(nothing, 0, 0, 0), 0);
     for (int at = 0; at < 2; at++)
         for (int place_in = 0; place_in < 5; place_in++)
             is("a picture's byte", car[at].picture[place_in], place_in == 0 ? 0 : 0xEE);
@@ -3592,7 +3594,7 @@ static void two_car_scripts_refused(void)
     static const uint8_t cut_above[] = {0, CYCLE, 1, CYCLE, 2};
     static const uint8_t cut_and_car[] = {0, CYCLE, 3, CYCLE, 1};
     static const uint8_t car_then_event[] = {7, CYCLE, 0, 0x50};
-    static const uint8_t swapped[] = {CYCLE, 0, BASE_PULSE, 1};
+    static const uint8_t of_car_1[] = {1, CYCLE}; /* event first, it would be a base pulse of car 0 */
     uint8_t script[] = {0, CYCLE, 1, CYCLE, 0, CYCLE};
 
     from("02, P5: 28, the place of the lone car");
@@ -3608,8 +3610,9 @@ static void two_car_scripts_refused(void)
     from("02, P5: the lowest number wins wherever it stands");
     two_refused("a car, then an event", car_then_event, sizeof car_then_event, 5, 3);
     from("02, P5: the car comes first");
-    is("0 and 1 are events too", run_two(swapped, sizeof swapped, NO_STOP, NO_STOP), 0);
-    is("PC of car 0", pc_of(0), 1);
+    is("0 and 1 are events too", run_two(of_car_1, sizeof of_car_1, NO_STOP, NO_STOP), 0);
+    is("PC of car 0", pc_of(0), 0);
+    is("PC of car 1", pc_of(1), 1);
     from("01, Events; 02, P5: every event byte and every car byte");
     for (unsigned byte = 0; byte < 256; byte++)
         for (size_t entry = 0; entry < 3; entry++) {

@@ -1060,7 +1060,7 @@ bad_cars 1 'no event stands behind 0: in this line' '0:\ncycle*100\n'
 bad_cars 1 'no event stands behind 1: in this line' '1: ()*2\n0: cycle'
 bad_cars 1 'no event stands behind 0: in this line' '0: (\n1: cycle)*2'
 for bad in cycles 0 e=1 'a=G' '$123' '*5'; do
-    bad_cars 2 "$bad is no event (desk run --help lists them)" "0: cycle\n1: $bad"
+    bad_cars 2 "$bad is no event (desk run-two --help lists them)" "0: cycle\n1: $bad"
 done
 bad_cars 2 'cycle*x: how many times?' '0: cycle\n1: cycle*x'
 bad_cars 1 ')*: how many times?' '0: (cycle)*'
