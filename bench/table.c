@@ -1,0 +1,61 @@
+/* The tables: what is printed of the times. */
+#include "table.h"
+
+#include <stdio.h>
+#include <stdlib.h>
+#include <string.h>
+
+static int by_size(const void *left, const void *right)
+{
+    double a = *(const double *)left, b = *(const double *)right;
+
+    return (a > b) - (a < b);
+}
+
+static double speed(const struct times *times, int at)
+{
+    double sorted[TURNS];
+
+    memcpy(sorted, times->of[at], sizeof sorted);
+    qsort(sorted, TURNS, sizeof sorted[0], by_size);
+    return 1 / sorted[0];
+}
+
+/* How many times as fast as that side. */
+static double beside(const struct times *times, int at)
+{
+    double ratios[TURNS];
+
+    for (int turn = 0; turn < TURNS; turn++)
+        ratios[turn] = times->of[at][turn] / times->of[GALHOVEIA][turn];
+    qsort(ratios, TURNS, sizeof ratios[0], by_size);
+    return ratios[TURNS / 2];
+}
+
+void heading(void)
+{
+    printf("%-42s %14s %14s %8s", "load (per second)", "galhoveia", "second", "ratio");
+    if (sides > BEFORE)
+        printf(" %14s %10s %8s", "before", "now/before", "median");
+    printf("\n");
+}
+
+void line(const char *what, const struct times *times)
+{
+    printf("%-42s %14.0f %14.0f %8.2f", what, speed(times, GALHOVEIA), speed(times, SECOND), beside(times, SECOND));
+    if (times->of[BEFORE][0] != 0)
+        printf(" %14.0f %10.2f %8.2f", speed(times, BEFORE), speed(times, GALHOVEIA) / speed(times, BEFORE),
+               beside(times, BEFORE));
+    printf("\n");
+    fflush(stdout);
+}
+
+void heading_in_microseconds(void)
+{
+    printf("%-42s %14s %14s\n", "listings (microseconds a call)", "galhoveia", "second");
+}
+
+void line_in_microseconds(const char *what, const struct times *times)
+{
+    printf("%-42s %14.1f %14.1f\n", what, 1e6 / speed(times, GALHOVEIA), 1e6 / speed(times, SECOND));
+}

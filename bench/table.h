@@ -1,0 +1,24 @@
+/* The tables. Speeds are those of the best turn. A ratio of 1 means as fast as the second emulator, 0.25 a quarter of
+   its speed; it is the median of the ratios taken turn by turn, of times that lie next to each other, since the
+   machine's own speed changes from turn to turn. Where an earlier galhoveia takes part, the last two columns are the
+   speed now over the speed before, of the best turns and as such a median: what the processor does undisturbed, and what
+   it mostly does. */
+#ifndef BENCH_TABLE_H
+#define BENCH_TABLE_H
+
+#include "sides.h"
+
+enum { TURNS = 5 * OFFSETS };
+
+/* What each side took in each turn; 0 where it took no part. */
+struct times {
+    double of[SIDES_MOST][TURNS];
+};
+
+void heading(void);
+void line(const char *what, const struct times *times);
+
+void heading_in_microseconds(void);
+void line_in_microseconds(const char *what, const struct times *times);
+
+#endif
