@@ -204,6 +204,46 @@ static void measure_listings(const uint8_t *forms, const uint8_t *example)
     line_in_microseconds("listing read: the example", &example_read);
 }
 
+/* ---- Two cars ---- */
+
+static int sides_with_two(void)
+{
+    return sides > BEFORE && side_in(0, BEFORE)->run_two == NULL ? BEFORE : sides;
+}
+
+static double time_two(int turn, int at, const struct load_of_two *load, struct car car[CARS])
+{
+    if (at == TWO_RUNS)
+        return time_two_runs(side_in(turn, GALHOVEIA), load, car);
+    return time_run_two(side_in(turn, at), load, car);
+}
+
+/* Two runs are timed right behind the run that they are held against. */
+static void measure_two(const char *what, struct load alone, struct machine start, enum dealing dealing)
+{
+    static const int timed[TIMED_MOST] = {GALHOVEIA, TWO_RUNS, SECOND, BEFORE};
+    static uint8_t entries[ENTRY_BYTES * RUN_EVENTS];
+    struct load_of_two load = {.alone = alone, .entries = entries, .length = RUN_EVENTS};
+    struct times times = {0};
+
+    deal(entries, RUN_EVENTS, alone.script, dealing, load.own);
+    start.memory[0x007] = 4; /* the display is on */
+    full_panel(start.memory, load.wiring);
+    for (int turn = 0; turn < TURNS; turn++) {
+        struct car end[TIMED_MOST][CARS];
+
+        for (int next = 0; next < sides_with_two() + 1; next++) {
+            int at = timed[next];
+
+            for (int car = 0; car < CARS; car++)
+                end[at][car] = (struct car){start, {0}};
+            times.of[at][turn] = time_two(turn, at, &load, end[at]);
+            same(what, end[GALHOVEIA], end[at], sizeof end[at]);
+        }
+    }
+    line_of_two(what, &times);
+}
+
 /* ---- How the time grows ---- */
 
 static double time_length(int turn, struct load load, size_t length)
@@ -253,7 +293,7 @@ int main(void)
     only_writers(writers, 0x020);
     all_forms(forms);
 
-    heading();
+    heading(sides);
     measure_run("run: NOPs, events", (struct load){nops, cycles}, awake());
     measure_run("run: mixed program, events", (struct load){mixture, cycles}, awake());
     measure_run("run: mixed, a tenth pin events, events", (struct load){mixture, mixture_pins}, awake());
@@ -271,6 +311,16 @@ int main(void)
     measure_pictures("picture, 240 elements, pictures");
     measure_listings(forms, example);
     printf("The second emulator lists by trial, so that its lists tell nothing of speed.\n");
+    heading_of_two(sides_with_two());
+    measure_two("NOPs", (struct load){nops, cycles}, awake(), AT_RANDOM);
+    measure_two("mixed program", (struct load){mixture, cycles}, awake(), AT_RANDOM);
+    measure_two("mixed program, by turns", (struct load){mixture, cycles}, awake(), BY_TURNS);
+    measure_two("mixed program, in rows of 5,000", (struct load){mixture, cycles}, awake(), IN_ROWS);
+    measure_two("mixed, a tenth pin events", (struct load){mixture, mixture_pins}, awake(), AT_RANDOM);
+    measure_two("calls and registers", (struct load){calls, calls_pins}, awake(), AT_RANDOM);
+    measure_two("the example dispatcher", (struct load){example, example_keys}, awake(), AT_RANDOM);
+    measure_two("asleep in HALT", (struct load){mixture, cycles}, asleep(), AT_RANDOM);
+    measure_two("general events", (struct load){general, cycles}, awake(), AT_RANDOM);
     measure_lengths("run: how the time grows, mixed program: events in a run, ns an event",
                     (struct load){mixture, cycles});
     return EXIT_SUCCESS;

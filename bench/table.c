@@ -21,7 +21,7 @@ static double speed(const struct times *times, int at)
     return 1 / sorted[0];
 }
 
-/* How many times as fast as that side. */
+/* How many times as fast as that one. */
 static double beside(const struct times *times, int at)
 {
     double ratios[TURNS];
@@ -32,22 +32,46 @@ static double beside(const struct times *times, int at)
     return ratios[TURNS / 2];
 }
 
-void heading(void)
+static void heading_of_before(int taking_part)
 {
-    printf("%-42s %14s %14s %8s", "load (per second)", "galhoveia", "second", "ratio");
-    if (sides > BEFORE)
+    if (taking_part > BEFORE)
         printf(" %14s %10s %8s", "before", "now/before", "median");
     printf("\n");
 }
 
-void line(const char *what, const struct times *times)
+static void line_of_before(const struct times *times)
 {
-    printf("%-42s %14.0f %14.0f %8.2f", what, speed(times, GALHOVEIA), speed(times, SECOND), beside(times, SECOND));
     if (times->of[BEFORE][0] != 0)
         printf(" %14.0f %10.2f %8.2f", speed(times, BEFORE), speed(times, GALHOVEIA) / speed(times, BEFORE),
                beside(times, BEFORE));
     printf("\n");
     fflush(stdout);
+}
+
+void heading(int taking_part)
+{
+    printf("%-42s %14s %14s %8s", "load (per second)", "galhoveia", "second", "ratio");
+    heading_of_before(taking_part);
+}
+
+void line(const char *what, const struct times *times)
+{
+    printf("%-42s %14.0f %14.0f %8.2f", what, speed(times, GALHOVEIA), speed(times, SECOND), beside(times, SECOND));
+    line_of_before(times);
+}
+
+void heading_of_two(int taking_part)
+{
+    printf("%-42s %14s %14s %8s %14s %8s", "two cars (entries per second)", "galhoveia", "two runs", "ratio", "second",
+           "ratio");
+    heading_of_before(taking_part);
+}
+
+void line_of_two(const char *what, const struct times *times)
+{
+    printf("%-42s %14.0f %14.0f %8.2f %14.0f %8.2f", what, speed(times, GALHOVEIA), speed(times, TWO_RUNS),
+           beside(times, TWO_RUNS), speed(times, SECOND), beside(times, SECOND));
+    line_of_before(times);
 }
 
 void heading_in_microseconds(void)

@@ -10,13 +10,20 @@
 
 enum { TURNS = 5 * OFFSETS };
 
-/* What each side took in each turn; 0 where it took no part. */
+/* What stands beside the sides where two cars are run: galhoveia's own run of each of them alone. */
+enum { TWO_RUNS = SIDES_MOST, TIMED_MOST };
+
+/* What each took in each turn; 0 where it took no part. */
 struct times {
-    double of[SIDES_MOST][TURNS];
+    double of[TIMED_MOST][TURNS];
 };
 
-void heading(void);
+void heading(int taking_part);
 void line(const char *what, const struct times *times);
+
+/* The first ratio is that to two runs, the second that to the second emulator. */
+void heading_of_two(int taking_part);
+void line_of_two(const char *what, const struct times *times);
 
 void heading_in_microseconds(void);
 void line_in_microseconds(const char *what, const struct times *times);
