@@ -1,10 +1,8 @@
 /* Measures galhoveia beside the second emulator and, where one is given, beside an earlier galhoveia: the same inputs,
-   in one run, turn by turn. Speeds are those of the best turn. A ratio of 1 means as fast as the second emulator, 0.25 a
-   quarter of its speed; it is the median of the ratios taken turn by turn, of times that lie next to each other, since
-   the machine's own speed changes from turn to turn. The last two columns are the speed now over the speed before, of
-   the best turns and as such a median: what the processor does undisturbed, and what it mostly does. */
+   in one run, turn by turn. */
 #include "loads.h"
 #include "sides.h"
+#include "table.h"
 #include "timing.h"
 
 #include <stdio.h>
@@ -12,7 +10,7 @@
 #include <string.h>
 
 enum {
-    TURNS = 5 * OFFSETS, RUN_EVENTS = 2000000, STEPS = 40000, LISTED_CELLS = 40, LISTS = 40, SECOND_LISTS = 1, LEVELS = 40000,
+    RUN_EVENTS = 2000000, STEPS = 40000, LISTED_CELLS = 40, LISTS = 40, SECOND_LISTS = 1, LEVELS = 40000,
     PICTURES = 40000, LISTINGS = 100, OFTEN = 10, SELDOM = 100, LONGEST = 10000000, TIMED_AT_LEAST = 1000000
 };
 
@@ -51,57 +49,7 @@ static struct machine sounding(void)
     return machine;
 }
 
-/* ---- The table ---- */
-
-static void heading(void)
-{
-    printf("%-42s %14s %14s %8s", "load (per second)", "galhoveia", "second", "ratio");
-    if (sides > BEFORE)
-        printf(" %14s %10s %8s", "before", "now/before", "median");
-    printf("\n");
-}
-
-/* What each side took in each turn; 0 where it took no part. */
-struct times {
-    double of[SIDES_MOST][TURNS];
-};
-
-static int by_size(const void *left, const void *right)
-{
-    double a = *(const double *)left, b = *(const double *)right;
-
-    return (a > b) - (a < b);
-}
-
-static double speed(const struct times *times, int at)
-{
-    double sorted[TURNS];
-
-    memcpy(sorted, times->of[at], sizeof sorted);
-    qsort(sorted, TURNS, sizeof sorted[0], by_size);
-    return 1 / sorted[0];
-}
-
-/* How many times as fast as that side. */
-static double beside(const struct times *times, int at)
-{
-    double ratios[TURNS];
-
-    for (int turn = 0; turn < TURNS; turn++)
-        ratios[turn] = times->of[at][turn] / times->of[GALHOVEIA][turn];
-    qsort(ratios, TURNS, sizeof ratios[0], by_size);
-    return ratios[TURNS / 2];
-}
-
-static void line(const char *what, const struct times *times)
-{
-    printf("%-42s %14.0f %14.0f %8.2f", what, speed(times, GALHOVEIA), speed(times, SECOND), beside(times, SECOND));
-    if (times->of[BEFORE][0] != 0)
-        printf(" %14.0f %10.2f %8.2f", speed(times, BEFORE), speed(times, GALHOVEIA) / speed(times, BEFORE),
-               beside(times, BEFORE));
-    printf("\n");
-    fflush(stdout);
-}
+/* ---- Side by side ---- */
 
 /* A load on which two sides differ would measure nothing. */
 static void same(const char *what, const void *left, const void *right, size_t length)
@@ -242,11 +190,6 @@ static struct times measure_listings_read(const char *what, const uint8_t *progr
     return times;
 }
 
-static void microseconds(const char *what, const struct times *times)
-{
-    printf("%-42s %14.1f %14.1f\n", what, 1e6 / speed(times, GALHOVEIA), 1e6 / speed(times, SECOND));
-}
-
 static void measure_listings(const uint8_t *forms, const uint8_t *example)
 {
     struct times forms_written = measure_listings_written("listing written: all forms, listings", forms);
@@ -254,11 +197,51 @@ static void measure_listings(const uint8_t *forms, const uint8_t *example)
     struct times example_written = measure_listings_written("listing written: the example, listings", example);
     struct times example_read = measure_listings_read("listing read: the example, listings", example);
 
-    printf("%-42s %14s %14s\n", "listings (microseconds a call)", "galhoveia", "second");
-    microseconds("listing written: all forms", &forms_written);
-    microseconds("listing read: all forms", &forms_read);
-    microseconds("listing written: the example", &example_written);
-    microseconds("listing read: the example", &example_read);
+    heading_in_microseconds();
+    line_in_microseconds("listing written: all forms", &forms_written);
+    line_in_microseconds("listing read: all forms", &forms_read);
+    line_in_microseconds("listing written: the example", &example_written);
+    line_in_microseconds("listing read: the example", &example_read);
+}
+
+/* ---- Two cars ---- */
+
+static int sides_with_two(void)
+{
+    return sides > BEFORE && side_in(0, BEFORE)->run_two == NULL ? BEFORE : sides;
+}
+
+static double time_two(int turn, int at, const struct load_of_two *load, struct car car[CARS])
+{
+    if (at == TWO_RUNS)
+        return time_two_runs(side_in(turn, GALHOVEIA), load, car);
+    return time_run_two(side_in(turn, at), load, car);
+}
+
+/* Two runs are timed right behind the run that they are held against. */
+static void measure_two(const char *what, struct load alone, struct machine start, enum dealing dealing)
+{
+    static const int timed[TIMED_MOST] = {GALHOVEIA, TWO_RUNS, SECOND, BEFORE};
+    static uint8_t entries[ENTRY_BYTES * RUN_EVENTS];
+    struct load_of_two load = {.alone = alone, .entries = entries, .length = RUN_EVENTS};
+    struct times times = {0};
+
+    deal(entries, RUN_EVENTS, alone.script, dealing, load.own);
+    start.memory[0x007] = 4; /* the display is on */
+    full_panel(start.memory, load.wiring);
+    for (int turn = 0; turn < TURNS; turn++) {
+        struct car end[TIMED_MOST][CARS];
+
+        for (int next = 0; next < sides_with_two() + 1; next++) {
+            int at = timed[next];
+
+            for (int car = 0; car < CARS; car++)
+                end[at][car] = (struct car){start, {0}};
+            times.of[at][turn] = time_two(turn, at, &load, end[at]);
+            same(what, end[GALHOVEIA], end[at], sizeof end[at]);
+        }
+    }
+    line_of_two(what, &times);
 }
 
 /* ---- How the time grows ---- */
@@ -310,7 +293,7 @@ int main(void)
     only_writers(writers, 0x020);
     all_forms(forms);
 
-    heading();
+    heading(sides);
     measure_run("run: NOPs, events", (struct load){nops, cycles}, awake());
     measure_run("run: mixed program, events", (struct load){mixture, cycles}, awake());
     measure_run("run: mixed, a tenth pin events, events", (struct load){mixture, mixture_pins}, awake());
@@ -328,6 +311,16 @@ int main(void)
     measure_pictures("picture, 240 elements, pictures");
     measure_listings(forms, example);
     printf("The second emulator lists by trial, so that its lists tell nothing of speed.\n");
+    heading_of_two(sides_with_two());
+    measure_two("NOPs", (struct load){nops, cycles}, awake(), AT_RANDOM);
+    measure_two("mixed program", (struct load){mixture, cycles}, awake(), AT_RANDOM);
+    measure_two("mixed program, by turns", (struct load){mixture, cycles}, awake(), BY_TURNS);
+    measure_two("mixed program, in rows of 5,000", (struct load){mixture, cycles}, awake(), IN_ROWS);
+    measure_two("mixed, a tenth pin events", (struct load){mixture, mixture_pins}, awake(), AT_RANDOM);
+    measure_two("calls and registers", (struct load){calls, calls_pins}, awake(), AT_RANDOM);
+    measure_two("the example dispatcher", (struct load){example, example_keys}, awake(), AT_RANDOM);
+    measure_two("asleep in HALT", (struct load){mixture, cycles}, asleep(), AT_RANDOM);
+    measure_two("general events", (struct load){general, cycles}, awake(), AT_RANDOM);
     measure_lengths("run: how the time grows, mixed program: events in a run, ns an event",
                     (struct load){mixture, cycles});
     return EXIT_SUCCESS;

@@ -22,7 +22,7 @@ enum {
 
 /* Each program begins its draws anew, so that it does not hang on what was made before it; its script goes on with
    them. */
-enum { MIXED_SEED = 67, CALLS_SEED = 54, FORMS_SEED = 17, PANEL_SEED = 6754 };
+enum { MIXED_SEED = 67, CALLS_SEED = 54, FORMS_SEED = 17, CARS_SEED = 2, PANEL_SEED = 6754 };
 
 static uint32_t seed;
 
@@ -262,6 +262,32 @@ void some_pins(uint8_t *script, size_t events, size_t every)
     only_cycles(script, events);
     for (size_t at = 0; at < events; at += every)
         script[at] = (uint8_t)(GALHOVEIA_EVENT_PINS_A + any(PINS));
+}
+
+/* ---- Scripts of two cars ---- */
+
+static unsigned next_car(enum dealing dealing, size_t entry)
+{
+    switch (dealing) {
+    case BY_TURNS:
+        return entry % CARS;
+    case IN_ROWS:
+        return entry / ROW % CARS;
+    default:
+        return any(CARS);
+    }
+}
+
+void deal(uint8_t *entries, size_t length, const uint8_t *script, enum dealing dealing, size_t own[CARS])
+{
+    seed = CARS_SEED;
+    memset(own, 0, CARS * sizeof own[0]);
+    for (size_t entry = 0; entry < length; entry++) {
+        unsigned car = next_car(dealing, entry);
+
+        entries[ENTRY_BYTES * entry] = (uint8_t)car;
+        entries[ENTRY_BYTES * entry + 1] = script[own[car]++];
+    }
 }
 
 /* ---- A panel ---- */

@@ -21,6 +21,16 @@ void cycles_and_sound(uint8_t *script, size_t events);
 /* Cycles, and at every so many events one that gives a port new pins. */
 void some_pins(uint8_t *script, size_t events, size_t every);
 
+enum { CARS = 2, ENTRY_BYTES = 2 };
+
+/* Whose the next entry is: drawn, the other car's than the last, or one car's for ROW entries. */
+enum dealing { AT_RANDOM, BY_TURNS, IN_ROWS };
+enum { ROW = 5000 };
+
+/* A script of two cars, of so many entries: each car takes the events of a script from its beginning, own[car] of
+   them. */
+void deal(uint8_t *entries, size_t length, const uint8_t *script, enum dealing dealing, size_t own[CARS]);
+
 /* A wiring of GALHOVEIA_ELEMENTS_MOST elements, and something in the display cells of a memory. */
 void full_panel(uint8_t *memory, uint8_t *wiring);
 

@@ -14,34 +14,38 @@
     uint32_t name##_picture(const uint8_t *, size_t, const uint8_t *, size_t, const uint8_t *, size_t, uint8_t *,     \
                             size_t, uint64_t *, uint64_t *);
 
-#define DECLARE_LISTINGS(name, attribute)                                                                              \
+#define DECLARE_LATER(name, attribute)                                                                                 \
     uint32_t name##_listing_write(const uint8_t *, size_t, uint8_t *, size_t, uint64_t *, uint64_t *) attribute;      \
-    uint32_t name##_listing_read(const uint8_t *, size_t, uint8_t *, size_t, uint64_t *) attribute;
+    uint32_t name##_listing_read(const uint8_t *, size_t, uint8_t *, size_t, uint64_t *) attribute;                   \
+    uint32_t name##_run_two(const uint8_t *, size_t, const uint8_t *, size_t, uint8_t *, size_t, uint8_t *, size_t,   \
+                            uint8_t *, size_t, uint8_t *, size_t, uint8_t *, size_t, uint8_t *, size_t,               \
+                            const uint8_t *, size_t, uint32_t, uint32_t, uint32_t *, uint32_t *, uint64_t *,          \
+                            uint64_t *) attribute;
 
 #define CALLS(name)                                                                                                    \
     {                                                                                                                  \
         name##_fresh, name##_run, name##_step, name##_list, name##_level, name##_picture, name##_listing_write,       \
-            name##_listing_read                                                                                        \
+            name##_listing_read, name##_run_two                                                                        \
     }
 
 DECLARE(now0)
 DECLARE(now1)
 DECLARE(now2)
 DECLARE(now3)
-DECLARE_LISTINGS(now0, )
-DECLARE_LISTINGS(now1, )
-DECLARE_LISTINGS(now2, )
-DECLARE_LISTINGS(now3, )
+DECLARE_LATER(now0, )
+DECLARE_LATER(now1, )
+DECLARE_LATER(now2, )
+DECLARE_LATER(now3, )
 
 #ifdef BENCH_BEFORE
 DECLARE(before0)
 DECLARE(before1)
 DECLARE(before2)
 DECLARE(before3)
-DECLARE_LISTINGS(before0, __attribute__((weak)))
-DECLARE_LISTINGS(before1, __attribute__((weak)))
-DECLARE_LISTINGS(before2, __attribute__((weak)))
-DECLARE_LISTINGS(before3, __attribute__((weak)))
+DECLARE_LATER(before0, __attribute__((weak)))
+DECLARE_LATER(before1, __attribute__((weak)))
+DECLARE_LATER(before2, __attribute__((weak)))
+DECLARE_LATER(before3, __attribute__((weak)))
 
 const int sides = BEFORE + 1;
 #else

@@ -21,9 +21,12 @@ struct side {
     uint32_t (*level)(const uint8_t *, size_t, const uint8_t *, size_t, int32_t *, uint64_t *);
     uint32_t (*picture)(const uint8_t *, size_t, const uint8_t *, size_t, const uint8_t *, size_t, uint8_t *, size_t,
                         uint64_t *, uint64_t *);
-    /* An earlier galhoveia may have neither; they are null then. */
+    /* An earlier galhoveia may have none of these; they are null then. */
     uint32_t (*listing_write)(const uint8_t *, size_t, uint8_t *, size_t, uint64_t *, uint64_t *);
     uint32_t (*listing_read)(const uint8_t *, size_t, uint8_t *, size_t, uint64_t *);
+    uint32_t (*run_two)(const uint8_t *, size_t, const uint8_t *, size_t, uint8_t *, size_t, uint8_t *, size_t,
+                        uint8_t *, size_t, uint8_t *, size_t, uint8_t *, size_t, uint8_t *, size_t, const uint8_t *,
+                        size_t, uint32_t, uint32_t, uint32_t *, uint32_t *, uint64_t *, uint64_t *);
 };
 
 extern const int sides; /* BEFORE is among them, or not */

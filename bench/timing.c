@@ -23,18 +23,24 @@ static void must(int done, const char *what)
     }
 }
 
+static void run(const struct side *side, size_t record, struct load load, size_t length, struct machine *machine)
+{
+    uint32_t reason;
+    uint64_t events, value;
+
+    must(side->run(load.program, GALHOVEIA_PROGRAM_BYTES, machine->memory, sizeof machine->memory, machine->record,
+                   record, load.script, length, GALHOVEIA_NO_STOP, &reason, &events, &value) == 0
+             && events == length,
+         "a run");
+}
+
 double time_runs(const struct side *side, struct load load, size_t length, size_t times, struct machine *machine)
 {
     size_t record = record_bytes(side);
-    uint32_t reason;
-    uint64_t events, value;
     double start = now();
 
     for (size_t at = 0; at < times; at++)
-        must(side->run(load.program, GALHOVEIA_PROGRAM_BYTES, machine->memory, sizeof machine->memory, machine->record,
-                       record, load.script, length, GALHOVEIA_NO_STOP, &reason, &events, &value) == 0
-                 && events == length,
-             "a run");
+        run(side, record, load, length, machine);
     return (now() - start) / (double)(length * times);
 }
 
@@ -79,21 +85,59 @@ double time_levels(const struct side *side, const struct machine *machine, const
     return (now() - start) / (double)times;
 }
 
+static void draw(const struct side *side, size_t record, const struct machine *machine, const uint8_t *wiring,
+                 uint8_t picture[GALHOVEIA_ELEMENTS_MOST])
+{
+    uint64_t count, value;
+
+    must(side->picture(machine->memory, sizeof machine->memory, machine->record, record, wiring,
+                       GALHOVEIA_ELEMENT_BYTES * GALHOVEIA_ELEMENTS_MOST, picture, GALHOVEIA_ELEMENTS_MOST, &count,
+                       &value)
+                 == 0
+             && count == GALHOVEIA_ELEMENTS_MOST,
+         "a picture");
+}
+
 double time_pictures(const struct side *side, const struct machine *machine, const uint8_t *wiring, size_t times,
                      struct shown *shown)
 {
     size_t record = record_bytes(side);
-    uint64_t count, value;
     double start = now();
 
     for (size_t at = 0; at < times; at++)
-        must(side->picture(machine->memory, sizeof machine->memory, machine->record, record, wiring,
-                           GALHOVEIA_ELEMENT_BYTES * GALHOVEIA_ELEMENTS_MOST, shown->picture, sizeof shown->picture,
-                           &count, &value)
-                     == 0
-                 && count == GALHOVEIA_ELEMENTS_MOST,
-             "a picture");
+        draw(side, record, machine, wiring, shown->picture);
     return (now() - start) / (double)times;
+}
+
+double time_run_two(const struct side *side, const struct load_of_two *load, struct car car[CARS])
+{
+    size_t record = record_bytes(side);
+    uint32_t reason[CARS];
+    uint64_t entries, value;
+    double start = now();
+
+    must(side->run_two(load->alone.program, GALHOVEIA_PROGRAM_BYTES, load->wiring, sizeof load->wiring,
+                       car[0].machine.memory, sizeof car[0].machine.memory, car[0].machine.record, record,
+                       car[0].picture, sizeof car[0].picture, car[1].machine.memory, sizeof car[1].machine.memory,
+                       car[1].machine.record, record, car[1].picture, sizeof car[1].picture, load->entries,
+                       ENTRY_BYTES * load->length, GALHOVEIA_NO_STOP, GALHOVEIA_NO_STOP, &reason[0], &reason[1],
+                       &entries, &value)
+                 == 0
+             && reason[0] == GALHOVEIA_AT_END && reason[1] == GALHOVEIA_AT_END,
+         "a run of two cars");
+    return (now() - start) / (double)load->length;
+}
+
+double time_two_runs(const struct side *side, const struct load_of_two *load, struct car car[CARS])
+{
+    size_t record = record_bytes(side);
+    double start = now();
+
+    for (int at = 0; at < CARS; at++) {
+        run(side, record, load->alone, load->own[at], &car[at].machine);
+        draw(side, record, &car[at].machine, load->wiring, car[at].picture);
+    }
+    return (now() - start) / (double)load->length;
 }
 
 double time_listings_written(const struct side *side, const uint8_t *program, size_t times, struct listing *listing)

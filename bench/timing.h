@@ -3,6 +3,7 @@
 #ifndef BENCH_TIMING_H
 #define BENCH_TIMING_H
 
+#include "loads.h"
 #include "sides.h"
 
 #include "../desk/galhoveia.h"
@@ -35,6 +36,24 @@ double time_levels(const struct side *side, const struct machine *machine, const
                    struct shown *shown);
 double time_pictures(const struct side *side, const struct machine *machine, const uint8_t *wiring, size_t times,
                      struct shown *shown);
+
+/* A load of each of two cars, which share its program and take its script from the beginning: in entries, and how many
+   events are whose own. */
+struct load_of_two {
+    struct load alone;
+    const uint8_t *entries;
+    size_t length, own[CARS];
+    uint8_t wiring[GALHOVEIA_ELEMENT_BYTES * GALHOVEIA_ELEMENTS_MOST];
+};
+
+struct car {
+    struct machine machine;
+    uint8_t picture[GALHOVEIA_ELEMENTS_MOST];
+};
+
+/* The run of two cars; and what it is held against, the run of each car over its own events, and its picture. */
+double time_run_two(const struct side *side, const struct load_of_two *load, struct car car[CARS]);
+double time_two_runs(const struct side *side, const struct load_of_two *load, struct car car[CARS]);
 
 /* A program as text. */
 struct listing {

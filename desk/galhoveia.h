@@ -6,8 +6,8 @@
      program   8,192 bytes: 4,096 words of 16 bits, high byte first; word n is at bytes 2n and 2n + 1
      memory    1,024 bytes: one nibble of the chip's RAM in each, at the chip's own addresses $000 to $3FF
      record    45 bytes: the registers that are not in RAM, as listed below
-     script    any number of bytes: what happens to the chip, one event in each; of two cars, a car and an event in
-               every two (galhoveia_run_two)
+     script    any number of bytes: what happens to the chip, one event in each; to galhoveia_run_two, which runs two
+               chips, any number of entries of two bytes each, a car and its event
      book      a file of the records desk: a program, the wiring of a panel, and where the panel keeps its level
      listing   a program as text: one line for each of its 4,096 words, described at galhoveia_listing_write
 
@@ -67,7 +67,7 @@ extern "C" {
 #define GALHOVEIA_BOOK_BYTES_MOST 8933 /* 16 of contents, the program, 240 elements, the level body */
 #define GALHOVEIA_LINE_BYTES_MOST 21   /* the longest line of a listing, with its line feed */
 #define GALHOVEIA_LISTING_BYTES_MOST 86016
-#define GALHOVEIA_STACK_BYTES_MOST 17696
+#define GALHOVEIA_STACK_BYTES_MOST 19360
 
 /* The answer of every call. Where several refusals apply, the lowest number is told, but 7 only where nothing else
    applies, and in galhoveia_level 10 and 11 come before 9. */
@@ -75,7 +75,8 @@ enum {
     GALHOVEIA_DONE = 0,
     GALHOVEIA_PROGRAM_LENGTH = 1, /* the program is not 8,192 bytes long; value: the length lent, in bytes */
     GALHOVEIA_MEMORY_LENGTH = 2,  /* the memory is not 1,024 bytes long; value: the length lent */
-    GALHOVEIA_MEMORY_CELL = 3,    /* a memory byte has a bit that its cell cannot hold; value: the lowest such address */
+    GALHOVEIA_MEMORY_CELL = 3,    /* a memory byte has a bit that its cell cannot hold; value: the lowest such
+                                     address */
     GALHOVEIA_RECORD = 4,         /* the record is not 45 bytes long, or breaks a rule listed below; value: 0 */
     GALHOVEIA_UNKNOWN_EVENT = 5,  /* an event byte means nothing; value: the first such place, counted from 0 */
     GALHOVEIA_UNLISTED_WORD = 6,  /* a cycle would execute a word that is no instruction; value: its program address */
@@ -177,18 +178,18 @@ uint32_t galhoveia_run(const uint8_t *program, size_t program_len, uint8_t *memo
                        uint8_t *record, size_t record_len, const uint8_t *script, size_t script_len,
                        uint32_t stop, uint32_t *reason, uint64_t *events, uint64_t *value);
 
-/* Runs two cars, each with a chip of its own, over one program and one wiring. Each entry of the script is two bytes, the
-   car (0 or 1) and the event that happens to its chip. A car stops as in galhoveia_run: at its own stop address, or
-   before a word that is no instruction, which is no refusal here, since the other car goes on; once stopped, it takes no
-   more entries, no reset either. The run ends with the entry that stops the second car, or with the script. What comes
-   of a car is what its own entries make of it, whatever the other does. Each car's memory and record are those of the
-   state in which it ends, and its picture is what galhoveia_picture gives for that state, after an empty script too:
-   one byte for each element of the wiring, and bytes beyond them stay. *reason0 and *reason1 tell why each car stopped
-   (GALHOVEIA_AT_END where its entries are all taken), *entries how many entries the run has passed, those of a stopped
-   car and one that met a word that is no instruction among them.
+/* Runs two cars, each with a chip of its own, over one program and one wiring. Each entry of the script is two bytes,
+   the car (0 or 1) and the event that happens to its chip. What comes of a car is what its own entries make of it,
+   whatever the other does. A car stops as in galhoveia_run: at its own stop address, or before a word that is no
+   instruction, which is no refusal here, since the other car goes on; once stopped, it takes no more entries, no reset
+   either. The run ends with the entry by which both cars have stopped, or with the script.
+   Each car's memory and record are those of the state in which it ends, and its picture is what galhoveia_picture gives
+   for that state, after an empty script too: one byte for each element of the wiring, and bytes beyond them stay.
+   *reason0 and *reason1 tell why each car stopped (GALHOVEIA_AT_END where its entries are all taken), *entries how many
+   entries the run has passed, those of a stopped car and one that met a word that is no instruction among them.
    Can answer, all before anything moves, in this order: 1; 2, 3, 4, at equal numbers car 0's first; 5; 10; 11 (the
-   wiring); 27; 28; 7, car 0's first. The whole script is judged, cut into entries from its front, a lone byte at its end
-   being a car; places count its bytes from 0, so that of an unknown event (5) is odd. */
+   wiring); 27; 28; 7, car 0's first. The whole script is judged, cut into entries from its front, a lone byte at its
+   end being a car; places count its bytes from 0, so that of an unknown event (5) is odd. */
 uint32_t galhoveia_run_two(const uint8_t *program, size_t program_len, const uint8_t *wiring, size_t wiring_len,
                            uint8_t *memory0, size_t memory0_len, uint8_t *record0, size_t record0_len,
                            uint8_t *picture0, size_t room0,
@@ -251,8 +252,9 @@ uint32_t galhoveia_listing_write(const uint8_t *program, size_t program_len, uin
 
 /* Reads such a text back into the program's 8,192 bytes. A text is taken only if it is exactly what
    galhoveia_listing_write gives for some program: all 4,096 lines, each as it is written there, and nothing behind
-   them. A room of more than 8,192 bytes is taken, and the bytes beyond stay. Can answer 7, 26; an empty text is 26 with
-   0, a text whose last line feed is missing 26 with 4095, and one with anything behind 4,096 good lines 26 with 4096. */
+   them. A room of more than 8,192 bytes is taken, and the bytes beyond stay. Can answer 7, 26; an empty text is 26
+   with 0, a text whose last line feed is missing 26 with 4095, and one with anything behind 4,096 good lines 26 with
+   4096. */
 uint32_t galhoveia_listing_read(const uint8_t *text, size_t text_len, uint8_t *program, size_t room, uint64_t *value);
 
 #ifdef __cplusplus

@@ -11,6 +11,9 @@
 #include <string.h>
 #include <ucontext.h>
 
+/* An earlier library may not have this call; it is null then, and not made. */
+#pragma weak galhoveia_run_two
+
 enum { TURNS = 3000, EVENTS = 500, DAMAGED_ONE_IN = 16 };
 
 /* ---- What is lent ---- */
@@ -220,14 +223,18 @@ int main(void)
         draw((enum mix)(turn % MIXES));
         draw_cars((enum mix)(turn % MIXES));
         for (unsigned at = 0; at < CALLED; at++) {
-            size_t above = (taken(calls[at].make, nothing) + 7) / 8 * 8 - RETURN_ADDRESS;
-            size_t bytes = taken(calls[at].make, calls[at].function) - above;
+            size_t above, bytes;
 
+            if (calls[at].function == NULL)
+                continue;
+            above = (taken(calls[at].make, nothing) + 7) / 8 * 8 - RETURN_ADDRESS;
+            bytes = taken(calls[at].make, calls[at].function) - above;
             if (bytes > calls[at].most)
                 calls[at].most = bytes;
         }
     }
     for (unsigned at = 0; at < CALLED; at++)
-        printf("seen %s %zu\n", calls[at].name, calls[at].most);
+        if (calls[at].function != NULL)
+            printf("seen %s %zu\n", calls[at].name, calls[at].most);
     return 0;
 }

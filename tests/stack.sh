@@ -1,10 +1,13 @@
 #!/bin/sh
 # How much stack the calls of a library take: stack.sh LIBRARY MOST COMPILER OBJECT..: an archive or object; the bytes that
 # the deepest call takes, or - where that is not known; and what tests/stack.c was compiled to, with what it needs besides.
-# At most: read off the compiled code, so for all inputs. A function holds its return address, what it pushes and reserves,
-# and below that what it calls, or what it keeps below the stack pointer. No call goes by a register, and none leads back to
-# its caller; a jump by a register is taken for a switch. A form of code that is not known here, and a function that gives
-# back other than it took, are told and fail. Of memset, memcpy and memmove, the system's, only the return address counts.
+# At most: read off the compiled code, so for all inputs. Every way through a function is followed from its beginning:
+# what it has pushed and reserved when it comes to an instruction is one number of bytes, whichever way it came, and 0
+# where it returns or jumps to another function. It holds its return address and the most of these bytes, and below that
+# what it calls, or what it keeps below the stack pointer. No call goes by a register, and none leads back to its caller; a
+# jump by a register is taken for a switch, whose cases are the code that nothing else leads to. A function that is not so,
+# and a form of code that is not known here, are told and fail. Of memset, memcpy and memmove, the system's, only the return
+# address counts.
 # Seen: what tests/stack.c saw, which may never be more, but that those of the system may take 128 bytes.
 # For each call both, and the functions on the deepest way with what each holds; then every function by itself.
 set -e
@@ -38,25 +41,69 @@ awk -v told="$most" '
     }
 
     $1 == "seen" { seen[$2] = $3; next }
-    # where a call or a jump leads stands behind it if the linker still has to fill it in, else in it
-    asked {
-        if (/R_X86_64_/) { target = $3; sub(/^\.text\./, "", target); sub(/-0x4$/, "", target) }
-        inside = asked != "call" && (target == name || index(target, name "+0x") == 1 || by_register)
-        if (!inside && target !~ /^[A-Za-z_][A-Za-z0-9_:.]*$/) fails(name ": leads to something unknown: " asked " " target)
-        if (!inside) calls[name, ++called[name]] = target
-        asked = ""
+    /^[0-9a-f]+ <.*>:$/ {
+        name = substr($2, 2, length($2) - 3)
+        if (name in first) fails("two functions have the name " name)
+        functions[++count] = name
+        first[name] = at + 1
+        next
     }
+    # where a call or a jump leads stands behind it if the linker still has to fill it in, else in it
+    /R_X86_64_/ && at in target { sub(/^\.text\./, "", $3); sub(/-0x4$/, "", $3); target[at] = $3; address[at] = "" }
     /R_X86_64_/ { next }
-    /^[0-9a-f]+ <.*>:$/ { name = substr($2, 2, length($2) - 3); functions[++count] = name; given = 0; next }
+    /^\t\.\.\./ { unknown() }
+    !/^ *[0-9a-f]+:\t/ { next }
+    { code[++at] = $0; number_of[name, $1] = at; last[name] = at }
     match($3, /-0x[0-9a-f]+\(%rsp/) { n = number(substr($3, RSTART + 3, RLENGTH - 8)); if (n > below[name]) below[name] = n }
-    $2 ~ /^(call|ret|j[a-z]*|push|pop)q$/ || $2 == "leave" || $2 == "enter" || $3 == "%rsp,%rbp" { unknown() }
-    $2 == "push" { held[name] += 8; next }
-    $2 == "pop" { given += 8; next }
-    $2 == "call" || $2 ~ /^j/ { asked = $2; target = substr($4, 2, length($4) - 2); by_register = $3 ~ /^\*%/ }
-    $2 == "ret" || $2 == "jmp" { if (given) gives[name, ++returns[name]] = given; given = 0 }
-    $2 == "sub" && /,%rsp$/ { held[name] += reserved(); next }
-    $2 == "add" && /,%rsp$/ { given += reserved(); next }
-    /,%rsp$/ { unknown() }
+    $2 ~ /^(call|ret|jmp|push|pop)./ && $2 != "popcnt" || $3 ~ /^(call|ret|jmp)/ || $2 == "ret" && $3 { unknown() }
+    $2 ~ /^(enter|leave|loop|int|iret|lret|lcall|ljmp|sys)/ || $3 == "%rsp,%rbp" { unknown() }
+    $3 ~ /^%[re]?spl?$|,%[re]?spl?$/ && $2 != "sub" && $2 != "add" { unknown() }
+    $3 ~ /,%[re]?spl?$/ { change[at] = $2 == "sub" ? reserved() : -reserved(); next }
+    $2 == "push" { change[at] = 8; next }
+    $2 == "pop" { change[at] = -8; next }
+    $2 == "ret" { leaves[at] }
+    $2 == "ret" || $2 == "jmp" || $2 == "ud2" { ends[at] }
+    $2 == "jmp" && $3 ~ /^\*%/ { switches[at]; next }
+    $2 == "call" || $2 ~ /^j/ { target[at] = substr($4, 2, length($4) - 2); address[at] = $3 ":" }
+    $2 ~ /^j/ { jumps[at] }
+    /[ \t]nop|xchg +%ax,%ax$/ { fills[at] }
+
+    # leads(F, K): the call or the jump K of F leads inside F, or to another function
+    function leads(f, k) {
+        if (k in jumps && target[k] == f) inside[k] = first[f]
+        else if (k in jumps && (f, address[k]) in number_of) inside[k] = number_of[f, address[k]]
+        else if (target[k] !~ /^[A-Za-z_][A-Za-z0-9_:.]*$/) fails(f ": leads to something unknown:" code[k])
+        else { calls[f, ++called[f]] = target[k]; if (k in jumps) leaves[k] }
+    }
+    # comes(F, K, BYTES): F comes to K, for a case of its switches F, with so much pushed and reserved; goes_on: from K on
+    function comes(f, k, bytes) {
+        if (!(k in held)) { held[k] = bytes; moved = 1 }
+        if (held[k] != bytes) fails(f " holds " held[k] " or " bytes " bytes at" (k == f ? " its switches" : code[k]))
+    }
+    function goes_on(f, k, bytes) {
+        if (bytes < 0 || bytes && k in leaves) fails(f " gives back other than it took, by " bytes ", at" code[k])
+        if (bytes > taken[f]) taken[f] = bytes
+        if (k in inside) comes(f, inside[k], bytes)
+        if (k in switches) comes(f, f, bytes)
+        if (k in ends) return
+        if (k == last[f]) fails(f " goes on behind its end")
+        comes(f, k + 1, bytes)
+    }
+    function follow(f,    k) {
+        for (k = first[f]; k <= last[f]; k++) if (k in target) leads(f, k)
+        comes(f, first[f], 0)
+        do {
+            moved = 0
+            for (k = first[f]; k <= last[f]; k++) if (k in held) goes_on(f, k, held[k] + change[k])
+            for (k = first[f]; !moved && k <= last[f]; k++) {
+                if (k in held || k in fills) continue
+                if (!(f in held)) fails(f ": nothing leads to" code[k])
+                comes(f, k, held[f])
+                cases[f]
+            }
+        } while (moved)
+        if (f in held && !(f in cases)) fails(f " jumps by a register, and has no cases")
+    }
 
     # deepest(F, OUTSIDE): F and all below it, where a function of the system takes so much; way[F, OUTSIDE]: the deepest way
     function deepest(f, outside,    i, c, d, most, through) {
@@ -78,9 +125,8 @@ awk -v told="$most" '
         if (!count) fails("no code that objdump reads")
         for (i = 1; i <= count; i++) {
             f = functions[i]
-            for (j = 1; j <= returns[f]; j++)
-                if (gives[f, j] != held[f]) fails(f " takes " held[f] + 0 " and gives back " gives[f, j])
-            own[f] = 8 + held[f]
+            follow(f)
+            own[f] = 8 + taken[f]
         }
         print "at most   seen  bytes of stack"
         for (i = 1; i <= count; i++) {
