@@ -1,6 +1,6 @@
 -- EACH CAR BY ITSELF (02, P5): where the call is done, a car's machine, memory, picture and stop reason are what the one-car run and the picture give for its own entries; so they depend on nothing else.
 use mathlib.Core.Path.{_≡_, _∙_, refl, ap, sym, subst}
-use mathlib.Core.Bool.{Bool, true, false}
+use mathlib.Core.Bool.{true, false}
 use mathlib.Core.Logic.{_⊎_, inl, inr}
 use mathlib.Core.List.{List, [], _∷_}
 use Prim.Native.Nat.{ℕ, zero, suc, _+_, _/_, _%_, _≤_}
@@ -19,6 +19,7 @@ use Rattle.sh_state.specs.declared.machine.Machine.{Machine}
 use Rattle.sh_state.specs.State.{State}
 use Rattle.sh_rules.specs.declared.judge.Judged.{Judged}
 use Rattle.sh_rules.specs.Judge.{firstOf, stateJudged}
+use Rattle.sh_rules.proofs.Laws.{first-fine}
 use Rattle.sh_known.specs.Known.{knownOf}
 use Rattle.sh_run.specs.declared.Stop.{Stop}
 use Rattle.sh_run.specs.Run.{Ran, runOf}
@@ -27,8 +28,9 @@ use Rattle.sh_run.specs.declared.Stop.the-variants as stops
 use Rattle.sh_two.specs.Two.{entriesOf, Car, car, carRan, ofCar, ownOf, startOf, Two, twoOf}
 use Rattle.sh_two.proofs.Cars.{as-one-car}
 use Rattle.call_run.specs.declared.Reason.{Reason}
-use Rattle.call_run.specs.Run.{RunAnswered, reasonOf, runToldOf, runFoundOf, runJudgedOf, runCallOf}
-use Rattle.body.specs.Body.{told, wiringJudged}
+use Rattle.call_run.specs.Run.{RunAnswered, reasonOf, runToldOf, unknownFrom, runFoundOf, runJudgedOf, runCallOf}
+use Rattle.body.specs.Body.{wiringJudged}
+use Rattle.body.proofs.Fine.{told-fine}
 use Rattle.picture.specs.declared.Drawn.{Drawn}
 use Rattle.picture.specs.Picture.{litOf, shownOf, drawOf, drawnOf, pictureOf}
 use Rattle.picture.proofs.Pictures.{one-per-element}
@@ -43,11 +45,6 @@ use Rattle.call_two.specs.RunTwo.{Lent, lowerOf, lowestOf, carsLentJudge
 refused-not-fine : {A : Type 0} {why : Refusal} → Judged.Refused why ≡ Judged.Fine → A
 refused-not-fine e = let z : _≡_ {A = ℕ} 0 1 = cc in absurd (omega arith)
 
-first-both : (a b : Judged) → firstOf a b ≡ Judged.Fine → (a ≡ Judged.Fine) × (b ≡ Judged.Fine)
-unfolding firstOf
-first-both Judged.Fine b e = (refl, e)
-first-both (Judged.Refused why) b e = refused-not-fine e
-
 lower-refuses : {A : Type 0} (v w : Refusal) → lowerOf v w ≡ Judged.Fine → A
 unfolding lowerOf
 lower-refuses {A} v w = by-choice (λ (j : Judged). j ≡ Judged.Fine → A) (ltb (numberOf w) (numberOf v)) _ _ refused-not-fine refused-not-fine
@@ -57,11 +54,6 @@ unfolding lowestOf
 lowest-both Judged.Fine b e = (refl, e)
 lowest-both (Judged.Refused v) Judged.Fine e = refused-not-fine e
 lowest-both (Judged.Refused v) (Judged.Refused w) e = lower-refuses v w e
-
-told-fits : (b : Bool) (why : Refusal) → told b why ≡ Judged.Fine → b ≡ true
-unfolding told
-told-fits true why e = refl
-told-fits false why e = refused-not-fine e
 
 events-none : (f : Found) → eventsJudged f ≡ Judged.Fine → f ≡ Found.Nothing
 unfolding eventsJudged
@@ -87,24 +79,21 @@ of-either P (suc k) a b f g = g
 done-of : (k : ℕ) (p wiring : List ℕ) (a b : Lent) (script : List ℕ) → twoJudged p wiring a b script ≡ Judged.Fine → Done p wiring script (ofCar k a b .current) (ofCar k a b .room)
 unfolding twoJudged carsLentJudged scriptJudged
 done-of k p wiring a b script h =
-    let x = first-both _ _ h in
-    let l = first-both _ _ (x .0) in
+    let x = first-fine _ _ h in
+    let l = first-fine _ _ (x .0) in
     let c = lowest-both (stateJudged (a .current)) (stateJudged (b .current)) (l .1) in
-    let y = first-both _ _ (x .1) in
-    let e = first-both _ _ (y .0) in
-    let o = first-both (roomJudged wiring (a .room)) (roomJudged wiring (b .room)) (y .1) in
+    let y = first-fine _ _ (x .1) in
+    let e = first-fine _ _ (y .0) in
+    let o = first-fine (roomJudged wiring (a .room)) (roomJudged wiring (b .room)) (y .1) in
     record {
-      words = told-fits (eqb (length p) 4096) _ (l .0);
+      words = told-fine (eqb (length p) 4096) _ (l .0);
       fit = of-either (λ (v : Lent). stateJudged (v .current) ≡ Judged.Fine) k a b (c .0) (c .1);
       known = events-none _ (e .0);
-      wired = first-both _ _ (e .1) .0;
+      wired = first-fine _ _ (e .1) .0;
       enough = room-enough wiring (ofCar k a b .room) (of-either (λ (v : Lent). roomJudged wiring (v .room) ≡ Judged.Fine) k a b (o .0) (o .1));
     }
 
 -- ---- The car's own entries are a script that the one-car run takes ----
-
-abbrev unknownFrom : List ℕ → ℕ → Found
-unknownFrom l j = failsFrom (λ _ e. knownOf e) l j
 
 found-not-nothing : {A : Type 0} {i : ℕ} → Found.At i ≡ Found.Nothing → A
 found-not-nothing e = let z : _≡_ {A = ℕ} 0 1 = cc in absurd (omega arith)

@@ -52,12 +52,12 @@ pub cars-left : (wiring room room1 : List ℕ) {r t : sh.Two} {v w : Outcome Dra
 unfolding bothLeftOf leftOf
 cars-left wiring room room1 e f g = rw (← e, f, g)
 
-first-fine : (a : Judged) → firstOf a Judged.Fine ≡ a
+first-alone : (a : Judged) → firstOf a Judged.Fine ≡ a
 unfolding firstOf
-first-fine Judged.Fine = refl
-first-fine (Judged.Refused why) = refl
+first-alone Judged.Fine = refl
+first-alone (Judged.Refused why) = refl
 
 pub fine-judged : (wiring script : List ℕ) {r : Judged} → r ≡ wiringJudged wiring → fineOf script ≡ true → r ≡ scriptJudged wiring script
 unfolding scriptJudged eventsJudged carsJudged cutJudged told firstOf
 fine-judged wiring script e h =
-    rw (fine-events script 0 refl h, fine-cars script 0 refl h, fine-whole script h) (e ∙ sym (first-fine (wiringJudged wiring)))
+    rw (fine-events script 0 refl h, fine-cars script 0 refl h, fine-whole script h) (e ∙ sym (first-alone (wiringJudged wiring)))

@@ -14,16 +14,6 @@ use Rattle.lent.proofs.Bits.{joined-above}
 use Rattle.sh_known.specs.Known.{knownOf}
 use Rattle.call_two.specs.Script.{eventFits, carFits, fineOf}
 
--- ok is what was found before, k what is found of the next part, b is of what stands behind that part, a of what stands from its first byte on
-both-swap : (a b c : Bool) → both (both a b) c ≡ both b (both a c)
-both-swap true true c = refl
-both-swap true false c = refl
-both-swap false true c = refl
-both-swap false false c = refl
-
-pub part-on : (k ok a b r : Bool) → both k b ≡ a → r ≡ both k ok → both r b ≡ both ok a
-part-on k ok a b r e f = rw (f, ← e) (both-swap k ok b)
-
 both-last : (a b c : Bool) → both a (both b c) ≡ both c (both a b)
 both-last true true true = refl
 both-last true true false = refl

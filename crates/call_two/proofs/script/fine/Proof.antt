@@ -6,7 +6,8 @@ use native.Mathlib.Omega.{arith}
 use lib.ListN.{drop}
 use Rattle.lent.specs.Lent.{both}
 use Rattle.call_two.specs.Script.{fineOf}
-use Rattle.call_two.proofs.Scripts.{part-on, part-last, many-fine}
+use Rattle.call_run.proofs.Laws.{part-on}
+use Rattle.call_two.proofs.Scripts.{part-last, many-fine}
 use Rattle.call_two.proofs.script.fine.Statement.{statement}
 use Rattle.call_two.proofs.script.fine.Tie as tie
 

@@ -6,7 +6,8 @@ use native.Mathlib.Omega.{arith}
 use lib.ListN.{drop}
 use Rattle.lent.specs.Lent.{both, at}
 use Rattle.call_two.specs.Script.{fineOf}
-use Rattle.call_two.proofs.Scripts.{part-on, entry-found, one-fine}
+use Rattle.call_run.proofs.Laws.{part-on}
+use Rattle.call_two.proofs.Scripts.{entry-found, one-fine}
 use Rattle.call_two.proofs.script.fine_by_one.Statement.{statement}
 use Rattle.call_two.proofs.script.fine_by_one.Tie as tie
 
