@@ -281,6 +281,10 @@ int main(void)
     static uint8_t cycles[LONGEST], mixture_pins[RUN_EVENTS], calls_pins[RUN_EVENTS], example_keys[RUN_EVENTS],
         sound[RUN_EVENTS];
 
+    if (sides > BEFORE && !adjusts_the_cell(side_in(0, BEFORE))) {
+        printf("The earlier galhoveia adjusts AC by DAA and DAS: LDA stands for them in the mixed words.\n");
+        without_decimals();
+    }
     example_dispatcher(example, example_keys, RUN_EVENTS);
     only_nops(nops);
     only_cycles(cycles, LONGEST);

@@ -80,6 +80,13 @@ static unsigned with_either(unsigned cell)
     return any(2) ? with_accumulator(cell) : with_immediate(cell);
 }
 
+static unsigned decimals[] = {DAS, DAA};
+
+void without_decimals(void)
+{
+    decimals[0] = decimals[1] = LDA;
+}
+
 /* The forms a program is made of, on data cells, some through the pointer; branches lead a few words on. */
 static unsigned mixed_word(unsigned address)
 {
@@ -102,7 +109,7 @@ static unsigned mixed_word(unsigned address)
     if (drawn < 93)
         return CALL | SUBROUTINE;
     if (drawn < 96)
-        return (any(2) ? DAA : DAS) | data;
+        return decimals[any(2)] | data;
     return any(2) ? SHR : NOP;
 }
 

@@ -13,6 +13,9 @@ void mixed(uint8_t *program);
 void calls_and_registers(uint8_t *program);
 void all_forms(uint8_t *program);                   /* every mnemonic and unlisted words, each as often as another */
 
+/* From here on LDA stands for DAA and DAS in mixed words, so that a library that adjusts AC comes to the same end. */
+void without_decimals(void);
+
 void only_cycles(uint8_t *script, size_t events);
 
 /* A cycle and four sound clocks in turn, as one oscillator gives them. */

@@ -79,3 +79,17 @@ size_t record_bytes(const struct side *asked)
     }
     return *bytes;
 }
+
+bool adjusts_the_cell(const struct side *asked)
+{
+    enum { CELL = 0x020, DAA = 0xCB00 | CELL };
+    uint8_t program[GALHOVEIA_PROGRAM_BYTES] = {DAA >> 8, DAA & 0xFF};
+    uint8_t memory[GALHOVEIA_MEMORY_BYTES], record[GALHOVEIA_RECORD_BYTES];
+    size_t bytes = record_bytes(asked);
+    uint64_t value;
+
+    (void)asked->fresh(memory, sizeof memory, record, bytes, 0, &value);
+    memory[CELL] = 12; /* and AC is 0 */
+    (void)asked->step(program, sizeof program, memory, sizeof memory, record, bytes, GALHOVEIA_EVENT_CYCLE, &value);
+    return memory[CELL] == 2;
+}

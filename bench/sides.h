@@ -2,6 +2,7 @@
 #ifndef BENCH_SIDES_H
 #define BENCH_SIDES_H
 
+#include <stdbool.h>
 #include <stddef.h>
 #include <stdint.h>
 
@@ -35,5 +36,8 @@ const struct side *side_in(int turn, int at);
 
 /* How much of a record the side works on: an earlier galhoveia may know the first fields only. */
 size_t record_bytes(const struct side *asked);
+
+/* Whether DAA and DAS adjust the cell: by an earlier galhoveia they may adjust AC. */
+bool adjusts_the_cell(const struct side *asked);
 
 #endif
