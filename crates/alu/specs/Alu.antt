@@ -33,7 +33,7 @@ calculatedOf And cell operand cy = sumOf (bitAnd cell operand) cy  -- AC ← Mx 
 unfoldable pub loadedOf : ℕ → ℕ → Sum
 loadedOf cell cy = sumOf cell cy
 
--- HOUSE: "DAA: if AC > 9 or CY = 1, AC + 6 mod 16 and CY 1; else no change"
+-- HOUSE: "DAA: if AC > 9 or CY = 1, AC + 6 mod 16 and CY 1; else no change"; the value is the cell's and not AC's (02, P6)
 abbrev pub sixMoreOf : ℕ → Sum
 sixMoreOf value = sumOf ((value + 6) % 16) 1
 
@@ -41,7 +41,7 @@ unfoldable pub decimalAddedOf : ℕ → ℕ → Sum
 decimalAddedOf value cy =
     pick (ltb 9 value) (sixMoreOf value) (pick (eqb cy 1) (sixMoreOf value) (sumOf value cy))
 
--- HOUSE: "DAS: if CY = 0, AC + 10 mod 16; else no change; CY stays"
+-- HOUSE: "DAS: if CY = 0, AC + 10 mod 16; else no change; CY stays"; of the cell's value (02, P6)
 unfoldable pub decimalSubtractedOf : ℕ → ℕ → Sum
 decimalSubtractedOf value cy =
     pick (eqb cy 0) (sumOf ((value + 10) % 16) cy) (sumOf value cy)

@@ -67,12 +67,12 @@ module _ (s : State) (f : MemoryFit (s .memory)) (v c : ℕ) (h : v < 16) where
   unfolding executeOf immediateFormOf storedImmediateOf storedOf targetOf readOf seenOf valueOf plainOf plainIn kindOf
   subtracts i e = put-took (state (s .machine) (s .memory)) f _ v c e h .1
 
-  adjusts : decimalAddedOf (s .machine .ac) (s .machine .cy) ≡ sumOf v c → Took (executeOf s (Daa 0x20)) v c
-  unfolding executeOf daaOf targetOf readOf seenOf
+  adjusts : decimalAddedOf (at (s .memory) 0x20) (s .machine .cy) ≡ sumOf v c → Took (executeOf s (Daa 0x20)) v c
+  unfolding executeOf daaOf targetOf readOf seenOf valueOf plainOf plainIn kindOf
   adjusts e = put-took (state (s .machine) (s .memory)) f _ v c e h
 
-  adjusts-back : decimalSubtractedOf (s .machine .ac) (s .machine .cy) ≡ sumOf v c → Took (executeOf s (Das 0x20)) v c
-  unfolding executeOf dasOf targetOf readOf seenOf
+  adjusts-back : decimalSubtractedOf (at (s .memory) 0x20) (s .machine .cy) ≡ sumOf v c → Took (executeOf s (Das 0x20)) v c
+  unfolding executeOf dasOf targetOf readOf seenOf valueOf plainOf plainIn kindOf
   adjusts-back e = put-took (state (s .machine) (s .memory)) f _ v c e h
 
 -- A machine of which a row's facts hold: its cell is $020, and its TBR is 5.
@@ -163,8 +163,8 @@ the-numbers =
     and (λ s g. accumulates s _ _ _ (rw (g .said .0, g .said .1 .0)), there 0 5 0 5 (omega arith) _ (cell-there 0 5 0 5 (omega arith) and refl and tt))
     -- 4 to 6
     and (λ s g. subtracts s (fit-of s (g .wellFormed) .memory) _ _ (omega arith) 0 (rw (g .said .0)), there 0 0 0 7 (omega arith) _ (cell-there 0 0 0 7 (omega arith) and tt))
-    and (λ s g. adjusts s (fit-of s (g .wellFormed) .memory) _ _ (omega arith) (rw (g .said .0)), there 0 12 0 0 (omega arith) _ (refl and refl and tt))
-    and (λ s g. adjusts-back s (fit-of s (g .wellFormed) .memory) _ _ (omega arith) (rw (g .said .0, g .said .1 .0)), there 0 14 0 0 (omega arith) _ (refl and refl and tt))
+    and (λ s g. adjusts s (fit-of s (g .wellFormed) .memory) _ _ (omega arith) (rw (g .said .0)), there 0 0 0 12 (omega arith) _ (cell-there 0 0 0 12 (omega arith) and refl and tt))
+    and (λ s g. adjusts-back s (fit-of s (g .wellFormed) .memory) _ _ (omega arith) (rw (g .said .0, g .said .1 .0)), there 0 0 0 14 (omega arith) _ (cell-there 0 0 0 14 (omega arith) and refl and tt))
     -- 7
     and (λ s g. (rw (g .said .0), tt), there 0x7FF 0 0 0 (omega arith) _ (refl and tt))
     and (λ s g. (rw (g .said .0), tt), there 0xFFF 0 0 0 (omega arith) _ (refl and tt))

@@ -1,4 +1,5 @@
--- The twelve numbers of 01, "Numbers to check by", a row for each, beside the paper's line; where it gives two numbers in one line, two rows.
+-- The twelve numbers of 01, "Numbers to check by", a row for each, beside the paper's line; where it gives two numbers in one line, two rows. 5 and 6
+-- "state the cell's value" (02, P6), where 01 has AC 12 and AC 14.
 use mathlib.Core.List.{List, [], _∷_}
 use lib.IntN.{pos, negℤ}
 use Rattle.word.specs.declared.Operation.the-variants.{Adc, Sub}
@@ -27,10 +28,10 @@ table =
     ∷ Executed (Accumulator Sub 0x020) (cell is 5 ∷ AC is 5 ∷ []) (AC is 0 ∷ CY is 1 ∷ [])
     -- 4. SBIM 0 on 7: cell 7, CY 1.
     ∷ Executed (Immediate Sbim 0x020 0) (cell is 7 ∷ []) (cell is 7 ∷ CY is 1 ∷ [])
-    -- 5. DAA, AC 12, CY 0: 2, CY 1.
-    ∷ Executed (Daa 0x020) (AC is 12 ∷ CY is 0 ∷ []) (AC is 2 ∷ cell is 2 ∷ CY is 1 ∷ [])
-    -- 6. DAS, AC 14, CY 0: 8, CY 0.
-    ∷ Executed (Das 0x020) (AC is 14 ∷ CY is 0 ∷ []) (AC is 8 ∷ cell is 8 ∷ CY is 0 ∷ [])
+    -- 5. DAA, cell 12, CY 0: 2, CY 1.
+    ∷ Executed (Daa 0x020) (cell is 12 ∷ CY is 0 ∷ []) (AC is 2 ∷ cell is 2 ∷ CY is 1 ∷ [])
+    -- 6. DAS, cell 14, CY 0: 8, CY 0.
+    ∷ Executed (Das 0x020) (cell is 14 ∷ CY is 0 ∷ []) (AC is 8 ∷ cell is 8 ∷ CY is 0 ∷ [])
     -- 7. After $7FF comes $000; after $FFF, $800.
     ∷ Executed Nop (PC is 0x7FF ∷ []) (PC is 0x000 ∷ [])
     ∷ Executed Nop (PC is 0xFFF ∷ []) (PC is 0x800 ∷ [])

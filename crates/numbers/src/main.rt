@@ -1,4 +1,5 @@
-// The twelve numbers of 01, "Numbers to check by", in the paper's own lines: what a line tells is what the code answers.
+// The twelve numbers of 01, "Numbers to check by", in the paper's own lines, 5 and 6 as 02, P6 has them: what a line tells is what the
+// code answers.
 use level::Levelled;
 use libc::STDOUT_FILENO;
 use sh_state::machine::Machine;
@@ -66,8 +67,8 @@ fn stored() {
         0,
     );
     said(b"4. SBIM 0 on 7: cell ", sbim.cell, sbim.cy);
-    result(b"5. DAA, AC 12, CY 0: ", Instruction::Daa(CELL), 12, 0, 0);
-    result(b"6. DAS, AC 14, CY 0: ", Instruction::Das(CELL), 14, 0, 0);
+    result(b"5. DAA, cell 12, CY 0: ", Instruction::Daa(CELL), 0, 0, 12);
+    result(b"6. DAS, cell 14, CY 0: ", Instruction::Das(CELL), 0, 0, 14);
 }
 
 fn addresses() {

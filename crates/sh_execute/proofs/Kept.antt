@@ -106,7 +106,7 @@ module _ {s : State} (f : Fit s) where
   tjmp-keeps = record { memory = f .memory; machine = pc-fits (f .machine) _ (omega (arith, f .machine .pc)) }
 
 pub execute-keeps : {s : State} (i : Instruction) → inRange i ≡ true → Fit s → Fit (executeOf s i)
-unfolding executeOf accumulatorFormOf memoryFormOf ldaOf staOf ldiOf daaOf dasOf branchOf shrOf
+unfolding executeOf accumulatorFormOf memoryFormOf ldaOf staOf ldiOf daaOf dasOf branchOf shrOf readOf
 execute-keeps (Accumulator o x) e f = accumulated-keeps f o _ _ (f .machine .ac)
 execute-keeps (Memory o x) e f = stored-keeps f o _ _ (f .machine .ac)
 execute-keeps (Lda x) e f = load-keeps f _
@@ -115,8 +115,8 @@ execute-keeps (Immediate o x i) e f = immediate-keeps f o x i (both-below x 128 
 execute-keeps (Ldi x i) e f = put-keeps f _ (loaded-range i _ (both-below x 128 i 16 e .1) (f .machine .cy))
 execute-keeps (Branch c t) e f = record { memory = f .memory; machine = branch-fits (f .machine) _ t }
 execute-keeps (Call t) e f = record { memory = f .memory; machine = call-fits (f .machine) t }
-execute-keeps (Daa x) e f = put-keeps (read-keeps f _) _ (decimal-added-range _ _ (f .machine .ac) (f .machine .cy))
-execute-keeps (Das x) e f = put-keeps (read-keeps f _) _ (decimal-subtracted-range _ _ (f .machine .ac) (f .machine .cy))
+execute-keeps (Daa x) e f = put-keeps (read-keeps f _) _ (decimal-added-range _ _ (value-small f _) (f .machine .cy))
+execute-keeps (Das x) e f = put-keeps (read-keeps f _) _ (decimal-subtracted-range _ _ (value-small f _) (f .machine .cy))
 execute-keeps (Rtnw h l) e f = let b = both-below h 16 l 16 e in rtnw-keeps f h l (b .0) (b .1)
 execute-keeps Rtni e f = record { memory = f .memory; machine = rtni-fits (f .machine) }
 execute-keeps Halt e f = record { memory = f .memory; machine = rest-fits (f .machine) 1 (omega arith) }

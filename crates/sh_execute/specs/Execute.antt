@@ -1,4 +1,4 @@
--- One instruction on the machine (003, section 17; 01, "One instruction"). Decoding keeps every field in its range.
+-- One instruction on the machine (003, section 17; 01, "One instruction"; 02, P6). Decoding keeps every field in its range.
 use Prim.Native.Nat.{ℕ, _+_, _*_, _/_, _%_}
 use mathlib.Core.Bool.{Bool, not}
 use lib.Dec.{eqb}
@@ -87,16 +87,16 @@ immediateFormOf s Eorim x i = storedImmediateOf s Eor x i
 immediateFormOf s Orim x i = storedImmediateOf s Or x i
 immediateFormOf s Andim x i = storedImmediateOf s And x i
 
--- DAA and DAS adjust AC (HOUSE); the cell is read, then takes it
+-- DAA and DAS: "the cell's value" (02, P6) is read and adjusted; then "both get the result", AC and the cell
 unfoldable pub daaOf : State → ℕ → State
 daaOf s x =
     putOf (state (readOf s (targetOf (s .memory) x) .machine) (s .memory)) (targetOf (s .memory) x)
-    (decimalAddedOf (s .machine .ac) (s .machine .cy))
+    (decimalAddedOf (readOf s (targetOf (s .memory) x) .value) (s .machine .cy))
 
 unfoldable pub dasOf : State → ℕ → State
 dasOf s x =
     putOf (state (readOf s (targetOf (s .memory) x) .machine) (s .memory)) (targetOf (s .memory) x)
-    (decimalSubtractedOf (s .machine .ac) (s .machine .cy))
+    (decimalSubtractedOf (readOf s (targetOf (s .memory) x) .value) (s .machine .cy))
 
 unfoldable pub takenOf : Condition → ℕ → ℕ → Bool
 takenOf Bnz ac cy = not (eqb ac 0)

@@ -143,16 +143,18 @@ fn daa(m: Machine, memory: &mut [u8], x: u16) -> Machine
     ensures { λ n. ⌜ state n (now (memory .exit)) ≡ daaOf (state m (now (memory .entry))) x ⌝ }
 {
     let a = sh_cells::target(memory, x);
+    let v = sh_cells::value(m, memory, a);
     let n = sh_cells::seen(m, memory, a);
-    put(n, memory, a, alu::decimal_added(m.ac, m.cy))
+    put(n, memory, a, alu::decimal_added(v, m.cy))
 }
 
 fn das(m: Machine, memory: &mut [u8], x: u16) -> Machine
     ensures { λ n. ⌜ state n (now (memory .exit)) ≡ dasOf (state m (now (memory .entry))) x ⌝ }
 {
     let a = sh_cells::target(memory, x);
+    let v = sh_cells::value(m, memory, a);
     let n = sh_cells::seen(m, memory, a);
-    put(n, memory, a, alu::decimal_subtracted(m.ac, m.cy))
+    put(n, memory, a, alu::decimal_subtracted(v, m.cy))
 }
 
 pub fn taken(c: Condition, ac: u8, cy: u8) -> bool

@@ -33,7 +33,7 @@ use Rattle.sh_core.specs.Quick.{Quick, quickly, staysOf, gotOf, goneOf, putOf}
 use Rattle.sh_core.specs.Quick.{coreIn}
 use Rattle.sh_turn.specs.declared.Turned.{Turned}
 use Rattle.sh_turn.specs.Turn.{Turn, turning, shownOf, maskOf, readableOf, writableOf, putMaskedOf, putRegisterOf, takesOf, codeOf, writesOf, transferredOf, acResultOf, immediateResultOf, acWordOf, immediateWordOf, cellTurnOf, adjustedOf, decimalOf, tableOf, otherTurnOf, calledOf, returnedOf, returnedWithOf, aloneOf, turnOf}
-use Rattle.sh_core.proofs.Plain.{seen-plain}
+use Rattle.sh_core.proofs.Plain.{value-plain, seen-plain}
 use Rattle.sh_core.proofs.Words.{past}
 use Rattle.sh_core.proofs.Right.{doneOf, inside, took-core, put-right, low-word, middle-word, stays-never}
 
@@ -200,13 +200,13 @@ module _ (m : Machine) (c : Core) (l : List ℕ) (w : ℕ) where
 
   -- DAA and DAS
   module _ (e : askableOf (targetOf l (w % 128)) ≡ true) where
-    daa-does : executeOf (state (coreIn m c) l) (Daa (w % 128)) ≡ inside m (putOf c l (targetOf l (w % 128)) (decimalAddedOf (c .ac) (c .cy)))
+    daa-does : executeOf (state (coreIn m c) l) (Daa (w % 128)) ≡ inside m (putOf c l (targetOf l (w % 128)) (decimalAddedOf (at l (targetOf l (w % 128))) (c .cy)))
     unfolding executeOf daaOf readOf coreIn setPc setCy setAc
-    daa-does = rw (seen-plain (state (coreIn m c) l) (targetOf l (w % 128)) e) (put-right m c l (targetOf l (w % 128)) e _)
+    daa-does = rw (value-plain (state (coreIn m c) l) (targetOf l (w % 128)) e, seen-plain (state (coreIn m c) l) (targetOf l (w % 128)) e) (put-right m c l (targetOf l (w % 128)) e _)
 
-    das-does : executeOf (state (coreIn m c) l) (Das (w % 128)) ≡ inside m (putOf c l (targetOf l (w % 128)) (decimalSubtractedOf (c .ac) (c .cy)))
+    das-does : executeOf (state (coreIn m c) l) (Das (w % 128)) ≡ inside m (putOf c l (targetOf l (w % 128)) (decimalSubtractedOf (at l (targetOf l (w % 128))) (c .cy)))
     unfolding executeOf dasOf readOf coreIn setPc setCy setAc
-    das-does = rw (seen-plain (state (coreIn m c) l) (targetOf l (w % 128)) e) (put-right m c l (targetOf l (w % 128)) e _)
+    das-does = rw (value-plain (state (coreIn m c) l) (targetOf l (w % 128)) e, seen-plain (state (coreIn m c) l) (targetOf l (w % 128)) e) (put-right m c l (targetOf l (w % 128)) e _)
 
     adjusted-does : w / 2048 ≡ 25 → Does (adjustedOf c l w (targetOf l (w % 128)))
     unfolding adjustedOf controlOf

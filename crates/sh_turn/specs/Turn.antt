@@ -108,8 +108,8 @@ cellTurnOf m c l w = pick (ltb w 0x4000) (acWordOf m c l w (targetOf l (w % 1024
 -- DAA and DAS on data, display and scan
 unfoldable pub adjustedOf : Core → List ℕ → ℕ → ℕ → Quick
 adjustedOf c l w a =
-    pick (eqb (w / 128) 0x196) (putOf c l a (decimalAddedOf (c .ac) (c .cy)))
-    (pick (eqb (w / 128) 0x19A) (putOf c l a (decimalSubtractedOf (c .ac) (c .cy))) (quickly (staysOf c) l))
+    pick (eqb (w / 128) 0x196) (putOf c l a (decimalAddedOf (at l a) (c .cy)))
+    (pick (eqb (w / 128) 0x19A) (putOf c l a (decimalSubtractedOf (at l a) (c .cy))) (quickly (staysOf c) l))
 
 unfoldable pub decimalOf : Core → List ℕ → ℕ → ℕ → Quick
 decimalOf c l w a = pick (askableOf a) (adjustedOf c l w a) (quickly (staysOf c) l)

@@ -245,11 +245,12 @@ fn cells(c: Core, m: Machine, memory: &mut [u8], w: u16) -> Core
 fn adjusted(c: Core, memory: &mut [u8], w: u16, a: u16) -> Core
     ensures { λ r. ⌜ quickly r (now (memory .exit)) ≡ adjustedOf c (now (memory .entry)) w a ⌝ }
 {
+    let x = map::cell(memory, a);
     if w / 128 == 0x196 {
-        return sh_core::put(c, memory, a, alu::decimal_added(c.ac, c.cy));
+        return sh_core::put(c, memory, a, alu::decimal_added(x, c.cy));
     }
     if w / 128 == 0x19A {
-        return sh_core::put(c, memory, a, alu::decimal_subtracted(c.ac, c.cy));
+        return sh_core::put(c, memory, a, alu::decimal_subtracted(x, c.cy));
     }
     sh_core::stays(c)
 }

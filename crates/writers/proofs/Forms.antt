@@ -83,13 +83,14 @@ ldi-value : (i : ℕ) → i < 16 → Value (λ cell ac cy. loadedOf i cy .value)
 unfolding loadedOf
 ldi-value i h = always (λ cell ac cy _ k l. h) ((i + 1) % 16) 0 0 (omega arith) (λ e. omega arith)
 
-daa-value : Value (λ cell ac cy. decimalAddedOf ac cy .value) true
+-- DAA and DAS: the cell and CY make it differ, whatever AC is; with CY 0 DAA makes 2 of 12, DAS 8 of 14
+daa-value : Value (λ cell ac cy. decimalAddedOf cell cy .value) true
 unfolding decimalAddedOf
-daa-value = always (λ cell ac cy h k l. decimal-added-range ac cy k l .0) 1 0 0 (omega arith) (λ e. omega arith)
+daa-value = always (λ cell ac cy h k l. decimal-added-range cell cy h l .0) 12 0 0 (omega arith) (λ e. omega arith)
 
-das-value : Value (λ cell ac cy. decimalSubtractedOf ac cy .value) true
+das-value : Value (λ cell ac cy. decimalSubtractedOf cell cy .value) true
 unfolding decimalSubtractedOf
-das-value = always (λ cell ac cy h k l. decimal-subtracted-range ac cy k l .0) 0 0 0 (omega arith) (λ e. omega arith)
+das-value = always (λ cell ac cy h k l. decimal-subtracted-range cell cy h l .0) 14 0 0 (omega arith) (λ e. omega arith)
 
 -- the test of an immediate that changes nothing
 zero-of : (i k : ℕ) → not (eqb i k) ≡ false → i ≡ k

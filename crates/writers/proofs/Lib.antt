@@ -7,3 +7,4 @@ pub mod Listing
 pub mod Told
 pub mod Laws
 pub mod Bits
+pub mod Decimal

@@ -6,6 +6,9 @@ use borrow.Author.Needs.{needs}
 use Rattle.sh_turn.proofs.adjusted.Statement.{statement}
 use Rattle.sh_turn.proofs.adjusted.Tie as tie
 
+cell-requires : tie.Need-cell-requires
+cell-requires c κs = search needs
+
 decimal-added-requires : tie.Need-decimal-added-requires
 decimal-added-requires c κs = search needs
 
@@ -17,7 +20,10 @@ same-length c = search needs
 
 returns : tie.Need-returns
 unfolding adjustedOf
-returns c = let a = c .before .before in rw (eq-eqb _ _ (a .before .before .before .if1 .taken), ← a .before .decimal-added .ensures) (a .put .ensures)
+returns c =
+    let a = c .before .before in
+    let z = a .before .before .before in
+    rw (eq-eqb _ _ (z .if1 .taken), ← z .before .cell .ensures, ← a .before .decimal-added .ensures) (a .put .ensures)
 
 decimal-subtracted-requires : tie.Need-decimal-subtracted-requires
 decimal-subtracted-requires c κs = search needs
@@ -30,10 +36,16 @@ same-length-2 c = search needs
 
 returns-2 : tie.Need-returns-2
 unfolding adjustedOf
-returns-2 c = let a = c .before .before in let z = a .before .before .before in rw (ne-eqb _ _ (z .before .if1 .left), eq-eqb _ _ (z .if2 .taken), ← a .before .decimal-subtracted .ensures) (a .put2 .ensures)
+returns-2 c =
+    let a = c .before .before in
+    let z = a .before .before .before in
+    rw (ne-eqb _ _ (z .before .if1 .left), eq-eqb _ _ (z .if2 .taken), ← z .before .before .cell .ensures, ← a .before .decimal-subtracted .ensures) (a .put2 .ensures)
 
 stays-requires : tie.Need-stays-requires
 stays-requires c κs = search needs
+
+same-length-3 : tie.Need-same-length-3
+same-length-3 c = search needs
 
 returns-3 : tie.Need-returns-3
 unfolding adjustedOf
@@ -43,6 +55,7 @@ pub adjusted-spec : {M : Type 1} → statement M
 adjusted-spec =
     tie.close
     (tie.spec
+    cell-requires
     decimal-added-requires
     put-requires
     same-length
@@ -52,4 +65,5 @@ adjusted-spec =
     same-length-2
     returns-2
     stays-requires
+    same-length-3
     returns-3)
