@@ -381,6 +381,20 @@ static uint8_t difference(struct second_machine *m, unsigned left, unsigned righ
     return sum(m, left, 15 - right, carry);
 }
 
+/* Decimal adjust takes what the cell reads as, whatever AC holds (02, P6); the carry rules are those of 01. */
+static uint8_t adjusted_sum(struct second_machine *m, uint8_t nibble)
+{
+    if (nibble <= 9 && !m->cy)
+        return nibble;
+    m->cy = 1;
+    return (nibble + 6) & 15;
+}
+
+static uint8_t adjusted_difference(const struct second_machine *m, uint8_t nibble)
+{
+    return m->cy ? nibble : (nibble + 10) & 15;
+}
+
 /* AC gets the whole result; the cell, in a memory form, stores what it can of it. */
 static void conclude(struct second_machine *m, unsigned address, uint8_t result, bool memory_form)
 {
@@ -505,21 +519,12 @@ static inline bool execute(struct second_machine *m, uint16_t word)
         break;
     case 25:
         at = resolve(m, near);
-        if ((word & 0x780) == 0x300) { /* DAA */
-            (void)read_cell(m, at);
-            if (m->ac > 9 || m->cy) {
-                m->ac = (m->ac + 6) & 15;
-                m->cy = 1;
-            }
-            write_cell(m, at, m->ac);
-        } else if ((word & 0x780) == 0x500) { /* DAS */
-            (void)read_cell(m, at);
-            if (!m->cy)
-                m->ac = (m->ac + 10) & 15;
-            write_cell(m, at, m->ac);
-        } else {
+        if ((word & 0x780) == 0x300) /* DAA */
+            conclude(m, at, adjusted_sum(m, read_cell(m, at)), true);
+        else if ((word & 0x780) == 0x500) /* DAS */
+            conclude(m, at, adjusted_difference(m, read_cell(m, at)), true);
+        else
             return false;
-        }
         break;
     case 26:
         if (word <= 0xD0FF) { /* RTNW */

@@ -173,19 +173,21 @@ static void twelve_numbers(void)
     is("the cell", memory[0x020], 7);
     is("CY", record[R_CY], 1);
 
-    from("01, Numbers 5");
+    from("01, Numbers 5; 02, P6: it states the cell's value");
     fresh();
     put(0, made(DAA, 0x20, 0));
-    record[R_AC] = 12;
+    memory[0x020] = 12;
+    record[R_AC] = 7;
     events(CYCLE, 1);
     is("AC", record[R_AC], 2);
     is("CY", record[R_CY], 1);
     is("the cell", memory[0x020], 2);
 
-    from("01, Numbers 6");
+    from("01, Numbers 6; 02, P6: it states the cell's value");
     fresh();
     put(0, made(DAS, 0x20, 0));
-    record[R_AC] = 14;
+    memory[0x020] = 14;
+    record[R_AC] = 7;
     events(CYCLE, 1);
     is("AC", record[R_AC], 8);
     is("CY", record[R_CY], 0);
@@ -217,7 +219,7 @@ static void twelve_numbers(void)
     is("the word told", told, 0xCB80);
     fresh();
     put(0, 0xCB7F);
-    record[R_AC] = 4;
+    memory[0x07F] = 14;
     events(CYCLE, 1);
     is("$07F after $CB7F", memory[0x07F], 4);
     put(1, 0xCB80);
@@ -395,21 +397,21 @@ static void arithmetic(void)
         {"ORIM 1,8", ORIM, 8, 1, 0, 0, 9, 0, 9},
         {"ANDIM 13,6", ANDIM, 6, 13, 0, 1, 4, 1, 4},
         {"LDI 9 sets AC too", LDI, 9, 3, 1, 1, 9, 1, 9},
-        {"DAA 5, no change", DAA, 0, 1, 5, 0, 5, 0, 5},
-        {"DAA 9, no change", DAA, 0, 1, 9, 0, 9, 0, 9},
-        {"DAA 10", DAA, 0, 1, 10, 0, 0, 1, 0},
-        {"DAA 2 with CY", DAA, 0, 1, 2, 1, 8, 1, 8},
-        {"DAA 15 with CY", DAA, 0, 1, 15, 1, 5, 1, 5},
-        {"DAS 3 with CY, no change", DAS, 0, 1, 3, 1, 3, 1, 3},
-        {"DAS 12 with CY, no change", DAS, 0, 1, 12, 1, 12, 1, 12},
-        {"DAS 0 without CY", DAS, 0, 1, 0, 0, 10, 0, 10},
-        {"DAS 6 without CY", DAS, 0, 1, 6, 0, 0, 0, 0},
+        {"DAA 5, no change", DAA, 0, 5, 13, 0, 5, 0, 5},
+        {"DAA 9, no change", DAA, 0, 9, 10, 0, 9, 0, 9},
+        {"DAA 10", DAA, 0, 10, 1, 0, 0, 1, 0},
+        {"DAA 2 with CY", DAA, 0, 2, 1, 1, 8, 1, 8},
+        {"DAA 15 with CY", DAA, 0, 15, 1, 1, 5, 1, 5},
+        {"DAS 3 with CY, no change", DAS, 0, 3, 15, 1, 3, 1, 3},
+        {"DAS 12 with CY, no change", DAS, 0, 12, 1, 1, 12, 1, 12},
+        {"DAS 0 without CY", DAS, 0, 0, 1, 0, 10, 0, 10},
+        {"DAS 6 without CY", DAS, 0, 6, 15, 0, 0, 0, 0},
         {"SHR 11", SHR, 0, 1, 11, 0, 5, 1, 1},
         {"SHR 8", SHR, 0, 1, 8, 1, 4, 0, 1},
         {"NOP", NOP, 0, 1, 13, 1, 13, 1, 1},
     };
 
-    from("01, One instruction; 003, section 17");
+    from("01, One instruction; 003, section 17; 02, P6");
     for (size_t at = 0; at < sizeof cases / sizeof cases[0]; at++) {
         bool bare = instruction_shape(cases[at].mnemonic) == SHAPE_BARE;
 
@@ -574,8 +576,9 @@ static void pointer(void)
     is("LDA", record[R_AC], 9);
     events(CYCLE, 1);
     is("ADIM", memory[0x335], 11);
+    record[R_AC] = 6;
     events(CYCLE, 1);
-    is("DAA of AC 11", memory[0x335], 1);
+    is("DAA of 11", memory[0x335], 1);
     events(CYCLE, 1);
     is("LDI", memory[0x335], 4);
     events(CYCLE, 1);
@@ -1831,7 +1834,7 @@ static void sound(void)
 /* ---- Timer0 read in two halves ---- */
 
 /* Every form that names a cell; what it leaves in AC where the cell reads as 9, 6 and 12, with 3 for AC and immediate
-   and 0 for CY; and whether it reads and whether it writes (01, One instruction; 003, section 17). */
+   and 0 for CY; and whether it reads and whether it writes (01, One instruction; 003, section 17; 02, P6). */
 static const struct form {
     enum mnemonic mnemonic;
     uint8_t of_9, of_6, of_12;
@@ -1845,7 +1848,7 @@ static const struct form {
     {STA, 3, 3, 3, false, true},     {ADI, 12, 9, 15, true, false},  {ADIM, 12, 9, 15, true, true},
     {SBI, 6, 3, 9, true, false},     {SBIM, 6, 3, 9, true, true},    {EORIM, 10, 5, 15, true, true},
     {ORIM, 11, 7, 15, true, true},   {ANDIM, 1, 2, 0, true, true},   {LDI, 3, 3, 3, false, true},
-    {DAA, 3, 3, 3, true, true},      {DAS, 13, 13, 13, true, true},
+    {DAA, 9, 6, 2, true, true},      {DAS, 3, 0, 6, true, true},
 };
 enum { FORMS = sizeof forms / sizeof forms[0] };
 
@@ -2141,6 +2144,385 @@ static void halves(void)
     one_after_the_other();
     what_leaves_the_frozen_nibble();
     resets_release();
+}
+
+/* ---- Decimal adjust ---- */
+
+/* What each nibble of the cell becomes, and CY with it (02, P6). */
+static const struct {
+    enum mnemonic mnemonic;
+    uint8_t cy, then[16], then_cy[16];
+} adjusted[] = {
+    {DAA, 0, {0, 1, 2, 3, 4, 5, 6, 7, 8, 9, 0, 1, 2, 3, 4, 5}, {0, 0, 0, 0, 0, 0, 0, 0, 0, 0, 1, 1, 1, 1, 1, 1}},
+    {DAA, 1, {6, 7, 8, 9, 10, 11, 12, 13, 14, 15, 0, 1, 2, 3, 4, 5}, {1, 1, 1, 1, 1, 1, 1, 1, 1, 1, 1, 1, 1, 1, 1, 1}},
+    {DAS, 0, {10, 11, 12, 13, 14, 15, 0, 1, 2, 3, 4, 5, 6, 7, 8, 9}, {0, 0, 0, 0, 0, 0, 0, 0, 0, 0, 0, 0, 0, 0, 0, 0}},
+    {DAS, 1, {0, 1, 2, 3, 4, 5, 6, 7, 8, 9, 10, 11, 12, 13, 14, 15}, {1, 1, 1, 1, 1, 1, 1, 1, 1, 1, 1, 1, 1, 1, 1, 1}},
+};
+enum { ADJUSTED = sizeof adjusted / sizeof adjusted[0] };
+
+static void adjust(enum mnemonic mnemonic, unsigned named, uint8_t ac, uint8_t cy)
+{
+    put(0, made(mnemonic, named, 0));
+    set_two(R_PC, 0);
+    record[R_AC] = ac;
+    record[R_CY] = cy;
+    events(CYCLE, 1);
+}
+
+static void gives(uint8_t ac, uint8_t cy)
+{
+    is("AC", record[R_AC], ac);
+    is("CY", record[R_CY], cy);
+}
+
+static void every_nibble_and_accumulator(void)
+{
+    uint8_t before[1024];
+
+    from("02, P6: the cell is adjusted, AC before plays no part, both get the result");
+    for (int at = 0; at < ADJUSTED; at++)
+        for (uint8_t nibble = 0; nibble < 16; nibble++)
+            for (uint8_t ac = 0; ac < 16; ac++) {
+                int others = 0;
+
+                fresh();
+                memory[0x07F] = nibble;
+                memcpy(before, memory, sizeof before);
+                adjust(adjusted[at].mnemonic, 0x7F, ac, adjusted[at].cy);
+                gives(adjusted[at].then[nibble], adjusted[at].then_cy[nibble]);
+                is("the cell", memory[0x07F], adjusted[at].then[nibble]);
+                for (unsigned address = 0; address < 1024; address++)
+                    others += address != 0x07F && memory[address] != before[address];
+                is("other cells changed", others, 0);
+            }
+}
+
+/* Digits added and subtracted in the cell, with AC used for something else before they are adjusted. */
+static void digits_in_the_cell(void)
+{
+    static const struct {
+        const char *what;
+        enum mnemonic mnemonic, adjusting;
+        uint8_t cell, ac, then, then_cy;
+    } sums[] = {
+        {"3 + 4", ADDM, DAA, 3, 4, 7, 0},    {"7 + 8", ADDM, DAA, 7, 8, 5, 1},    {"9 + 8", ADDM, DAA, 9, 8, 7, 1},
+        {"9 + 9", ADDM, DAA, 9, 9, 8, 1},    {"5 - 3", SUBM, DAS, 5, 3, 2, 1},    {"3 - 5", SUBM, DAS, 3, 5, 8, 0},
+        {"0 - 9", SUBM, DAS, 0, 9, 1, 0},    {"9 - 9", SUBM, DAS, 9, 9, 0, 1},
+    };
+    static const uint8_t cycles[6] = {0};
+
+    from("02, P6: a program that adds or subtracts digits in the cell");
+    for (size_t at = 0; at < sizeof sums / sizeof sums[0]; at++)
+        for (uint8_t other = 0; other < 16; other++) {
+            fresh();
+            put(0, made(NOP, 0, 0));
+            put(1, made(sums[at].mnemonic, 0x020, 0));
+            put(2, made(LDA, 0x021, 0));
+            put(3, made(sums[at].adjusting, 0x20, 0));
+            put(4, made(STA, 0x022, 0));
+            memory[0x020] = sums[at].cell;
+            memory[0x021] = other;
+            record[R_AC] = sums[at].ac;
+            is("answer", run(cycles, sizeof cycles, NO_STOP), 0);
+            is(sums[at].what, memory[0x020], sums[at].then);
+            gives(sums[at].then, sums[at].then_cy);
+            is("AC stored afterwards", memory[0x022], sums[at].then);
+            is("the cell that AC came from", memory[0x021], other);
+        }
+}
+
+static void decimal_on_ports(void)
+{
+    from("02, P6; 01, HOUSE: a port bit is adjusted as it reads, the result goes to the latch");
+    for (unsigned port = 0; port < 4; port++)
+        for (int through_pointer = 0; through_pointer < 2; through_pointer++) {
+            unsigned named = through_pointer ? 0x0F : 0x08 + port;
+            uint8_t *latch = memory + 0x008 + port, *control = memory + 0x016 + port, *pins = record + R_PIN_A + port;
+
+            fresh();
+            point_at(0x008 + port);
+            *latch = 0xC;   /* 1100 */
+            *control = 0xA; /* 1010 */
+            *pins = 0x5;    /* 0101, so that it reads 1101 */
+            adjust(DAA, named, 4, 0);
+            gives(3, 1);
+            is("latch, DAA of 13", *latch, 3);
+            is("pins", *pins, 0x5);
+            /* Latch 0011, so that it reads 0111. */
+            adjust(DAS, named, 4, 0);
+            gives(1, 0);
+            is("latch, DAS of 7", *latch, 1);
+            /* Latch 0001, so that it reads 0101. */
+            adjust(DAS, named, 4, 1);
+            gives(5, 1);
+            is("latch, DAS of 5 with CY, not adjusted and stored", *latch, 5);
+            *latch = 11;
+            *control = 0;
+            *pins = 2;
+            adjust(DAA, named, 15, 0);
+            gives(2, 0);
+            is("latch, DAA of pins 2, not adjusted and stored", *latch, 2);
+            *latch = 11;
+            *control = 15;
+            adjust(DAA, named, 2, 0);
+            gives(1, 1);
+            is("latch, DAA of 11 as it was", *latch, 1);
+            is("pins", *pins, 2);
+        }
+}
+
+/* Timer0's counter is $95 and its load $51, the next clock counts. */
+static void counting_95(void)
+{
+    counting();
+    record[R_T0_COUNTER] = 0x95;
+}
+
+static void decimal_on_the_halves(void)
+{
+    from("02, P6 and P2: $004 is adjusted as it reads, frozen or live, and the read releases");
+    counting_95();
+    set_frozen(12);
+    adjust(DAA, 0x04, 0, 0);
+    gives(2, 1);
+    is("load, DAA of the frozen 12", record[R_T0_LOAD], 0x52);
+    is("counter", record[R_T0_COUNTER], 0x96);
+    is_released();
+    counting_95();
+    adjust(DAA, 0x04, 12, 0);
+    gives(5, 0);
+    is("load, DAA of the live 5", record[R_T0_LOAD], 0x55);
+    is("counter", record[R_T0_COUNTER], 0x96);
+    is_released();
+    counting_95();
+    set_frozen(12);
+    adjust(DAS, 0x04, 5, 1);
+    gives(12, 1);
+    is("load, the frozen 12 by DAS with CY", record[R_T0_LOAD], 0x5C);
+    is_released();
+    counting_95();
+    set_frozen(0);
+    adjust(DAS, 0x04, 5, 0);
+    gives(10, 0);
+    is("load, DAS of a frozen 0", record[R_T0_LOAD], 0x5A);
+    is_released();
+    counting_95();
+    adjust(DAS, 0x04, 12, 0);
+    gives(15, 0);
+    is("load, DAS of the live 5", record[R_T0_LOAD], 0x5F);
+
+    from("02, P6 and P2: $005 reads the live high nibble and freezes; its write loads the counter and releases");
+    for (int frozen = 0; frozen < 2; frozen++) {
+        counting_95();
+        if (frozen)
+            set_frozen(6);
+        adjust(DAA, 0x05, 0, 1);
+        gives(15, 1);
+        is("load, DAA of 9 with CY", record[R_T0_LOAD], 0xF1);
+        is("counter, loaded and clocked", record[R_T0_COUNTER], 0xF2);
+        is_released();
+        counting_95();
+        if (frozen)
+            set_frozen(6);
+        adjust(DAA, 0x05, 12, 0);
+        gives(9, 0);
+        is("load, DAA of 9, not adjusted and stored", record[R_T0_LOAD], 0x91);
+        is("counter, loaded and clocked", record[R_T0_COUNTER], 0x92);
+        is_released();
+        counting_95();
+        if (frozen)
+            set_frozen(6);
+        adjust(DAS, 0x05, 6, 0);
+        gives(3, 0);
+        is("load, DAS of 9", record[R_T0_LOAD], 0x31);
+        is("counter, loaded and clocked", record[R_T0_COUNTER], 0x32);
+        is_released();
+        counting_95();
+        if (frozen)
+            set_frozen(6);
+        adjust(DAS, 0x05, 6, 1);
+        gives(9, 1);
+        is("load, DAS of 9 with CY, not adjusted and stored", record[R_T0_LOAD], 0x91);
+        is("counter, loaded and clocked", record[R_T0_COUNTER], 0x92);
+        is_released();
+    }
+}
+
+static void decimal_on_registers_with_effects(void)
+{
+    from("02, P6; 01: $01E keeps bit 3, and restarts the watchdog at the period that then stands");
+    fresh();
+    memory[0x01E] = 0xB;
+    set_two(R_WATCHDOG, 5);
+    adjust(DAA, 0x1E, 4, 0);
+    gives(1, 1);
+    is("$01E, DAA of 11", memory[0x01E], 0x9);
+    is("watchdog", two(R_WATCHDOG), 1024);
+    fresh_with(1);
+    memory[0x01E] = 3;
+    set_two(R_WATCHDOG, 5);
+    adjust(DAA, 0x1E, 15, 0);
+    gives(3, 0);
+    is("$01E, not adjusted", memory[0x01E], 3);
+    is("watchdog", two(R_WATCHDOG), 128);
+    fresh();
+    point_at(0x01E);
+    memory[0x01E] = 0xD;
+    set_two(R_WATCHDOG, 5);
+    adjust(DAS, 0x0F, 0, 1);
+    gives(13, 1);
+    is("$01E through $00F, not adjusted", memory[0x01E], 0xD);
+    is("watchdog", two(R_WATCHDOG), 16);
+    adjust(DAS, 0x0F, 0, 0);
+    gives(7, 0);
+    is("$01E through $00F, DAS of 13", memory[0x01E], 0xF);
+    is("watchdog", two(R_WATCHDOG), 1);
+
+    from("02, P6: stored also where nothing is adjusted; a write of $002 clears the prescaler");
+    for (int subtract = 0; subtract < 2; subtract++) {
+        fresh();
+        memory[0x002] = 6;
+        set_two(R_T0_PRESCALER, 1);
+        record[R_T0_COUNTER] = 0x40;
+        adjust(subtract ? DAS : DAA, 0x02, 13, subtract);
+        gives(6, subtract);
+        is("$002", memory[0x002], 6);
+        is("prescaler, cleared and clocked", two(R_T0_PRESCALER), 1);
+        is("counter", record[R_T0_COUNTER], 0x40);
+    }
+
+    from("02, P6: stored also where nothing is adjusted; a write of $003 clears its prescaler, one that disables both");
+    for (int subtract = 0; subtract < 2; subtract++) {
+        fresh();
+        memory[0x003] = 9;
+        record[R_BASE_PRESCALER] = 2;
+        record[R_BASE_COUNTER] = 0x40;
+        adjust(subtract ? DAS : DAA, 0x03, 3, subtract);
+        gives(9, subtract);
+        is("$003", memory[0x003], 9);
+        is("base prescaler", record[R_BASE_PRESCALER], 0);
+        is("base counter", record[R_BASE_COUNTER], 0x40);
+        record[R_BASE_PRESCALER] = 2;
+        adjust(subtract ? DAS : DAA, 0x03, 9, !subtract);
+        gives(subtract ? 3 : 15, !subtract);
+        is("$003", memory[0x003], subtract ? 3 : 15);
+        is("base prescaler", record[R_BASE_PRESCALER], 0);
+        is("base counter", record[R_BASE_COUNTER], 0);
+    }
+
+    from("02, P6: stored also where nothing is adjusted; a write of $01A makes a read pending");
+    for (int subtract = 0; subtract < 2; subtract++) {
+        fresh();
+        memory[0x01A] = 4;
+        memory[0x01B] = 5;
+        memory[0x01C] = 6;
+        adjust(subtract ? DAS : DAA, 0x1A, 13, subtract);
+        gives(4, subtract);
+        is("pending", record[R_PENDING], 1);
+        is("its address", two(R_PENDING_ADDRESS), 0x654);
+    }
+}
+
+static void decimal_on_cells_that_hold_less(void)
+{
+    static const uint16_t hold_nothing[] = {0x006, 0x00F, 0x01F, 0x170, 0x1FF, 0x2AB, 0x349, 0x357, 0x36E, 0x36F, 0x378,
+                                            0x3FF};
+
+    from("02, P6; 01: $370-$377 read 0 and take the result");
+    for (unsigned address = 0x370; address <= 0x377; address++)
+        for (int at = 0; at < ADJUSTED; at++) {
+            fresh();
+            point_at(address);
+            memory[address] = 9;
+            adjust(adjusted[at].mnemonic, 0x0F, 13, adjusted[at].cy);
+            gives(adjusted[at].then[0], adjusted[at].then_cy[0]);
+            is("the sound cell", memory[address], adjusted[at].then[0]);
+        }
+
+    from("02, P6; 01: a cell that holds nothing reads 0; AC gets the result, the cell stays 0");
+    for (size_t number = 0; number < sizeof hold_nothing / sizeof hold_nothing[0]; number++)
+        for (int at = 0; at < ADJUSTED; at++) {
+            unsigned address = hold_nothing[number];
+
+            fresh();
+            point_at(address);
+            adjust(adjusted[at].mnemonic, at & 1 && address < 0x080 ? address : 0x0F, 13, adjusted[at].cy);
+            gives(adjusted[at].then[0], adjusted[at].then_cy[0]);
+            is("the cell", memory[address], 0);
+        }
+
+    from("02, P6; reading 10: AC gets the full result, the cell what it can hold");
+    fresh();
+    memory[0x007] = 5;
+    adjust(DAS, 0x07, 1, 0);
+    gives(15, 0);
+    is("$007 of 1111", memory[0x007], 7);
+    adjust(DAA, 0x07, 15, 1);
+    gives(13, 1);
+    is("$007 of 1101", memory[0x007], 5);
+    memory[0x014] = 2;
+    adjust(DAS, 0x14, 1, 0);
+    gives(12, 0);
+    is("$014 of 1100", memory[0x014], 8);
+    fresh_with(2); /* BD0 = 1, BD1 = 0 */
+    memory[0x00C] = 9;
+    adjust(DAS, 0x0C, 12, 0);
+    gives(3, 0);
+    is("$00C keeps the bonding bits", memory[0x00C], 1);
+    memory[0x00C] = 13;
+    adjust(DAA, 0x0C, 12, 1);
+    gives(3, 1);
+    is("$00C keeps the bonding bits", memory[0x00C], 1);
+}
+
+static void decimal_through_the_pointer(void)
+{
+    static const uint16_t cells[] = {0x020, 0x07F, 0x080, 0x08F, 0x16F, 0x300, 0x348, 0x358, 0x36D};
+
+    from("02, P6; 01, $00F: the cell that the pointer stands at");
+    for (size_t at = 0; at < sizeof cells / sizeof cells[0]; at++) {
+        fresh();
+        point_at(cells[at]);
+        memory[cells[at]] = 11;
+        adjust(DAA, 0x0F, 2, 0);
+        gives(1, 1);
+        is("DAA of 11", memory[cells[at]], 1);
+        memory[cells[at]] = 8;
+        adjust(DAA, 0x0F, 12, 0);
+        gives(8, 0);
+        is("DAA of 8, not adjusted", memory[cells[at]], 8);
+        adjust(DAS, 0x0F, 12, 0);
+        gives(2, 0);
+        is("DAS of 8", memory[cells[at]], 2);
+        adjust(DAS, 0x0F, 12, 1);
+        gives(2, 1);
+        is("DAS of 2 with CY, not adjusted", memory[cells[at]], 2);
+    }
+
+    from("02, P6; 01, $00F: the pointer is taken before the write");
+    fresh();
+    point_at(0x010);
+    adjust(DAS, 0x0F, 3, 0);
+    gives(10, 0);
+    is("DPL", memory[0x010], 10);
+    is("$01A", memory[0x01A], 0);
+    is("no read is asked for", record[R_PENDING], 0);
+    fresh();
+    point_at(0x011);
+    adjust(DAS, 0x0F, 3, 0);
+    gives(11, 0);
+    is("DPM, of 1011", memory[0x011], 3);
+}
+
+static void decimal_adjust(void)
+{
+    every_nibble_and_accumulator();
+    digits_in_the_cell();
+    decimal_on_ports();
+    decimal_on_the_halves();
+    decimal_on_registers_with_effects();
+    decimal_on_cells_that_hold_less();
+    decimal_through_the_pointer();
 }
 
 /* ---- Runs ---- */
@@ -3888,6 +4270,7 @@ int main(void)
     edges();
     sound();
     halves();
+    decimal_adjust();
     runs();
     memory_refusals();
     record_refusals();
