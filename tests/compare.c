@@ -1,7 +1,7 @@
 /* Compares galhoveia with the second emulator over the C boundary: answers, values, and every lent byte. Two parts, so
    that they can run side by side: `calls` has every word, refusal, panel, list and listing, `runs` the random events,
-   the quiet stretches, what single steps change, every edge of a port's pins, and two cars over one program. Prints its
-   progress and, as its last line, how many comparisons passed and failed. */
+   the quiet stretches, what single steps change, every edge of a port's pins, DAA and DAS on every value of a cell, and
+   two cars over one program. Prints its progress and, as its last line, how many comparisons passed and failed. */
 #include "compare.h"
 #include "support.h"
 
@@ -118,6 +118,7 @@ int main(int argc, char **argv)
         progress("  (runs: %.1f s)", seconds_since(&start));
         compare_changes(&plan);
         compare_pins();
+        compare_decimal(&plan);
         progress("  (runs: %.1f s)", seconds_since(&start));
         compare_two(&plan);
     }

@@ -8,7 +8,7 @@ struct plan {
     uint64_t events;      /* at least so many in random runs, a fifth of them in quiet stretches, a tenth by steps,
                              four fifths as entries of two cars */
     unsigned machines;    /* for each of the 65,536 words */
-    unsigned cell_stride; /* the lists of one in so many cells are asked for; 1 for all */
+    unsigned cell_stride; /* the lists of one in so many cells are asked for, DAA and DAS tried on these; 1 for all */
     unsigned text_stride; /* of the listings at random and the damaged ones, one in so many is tried; 1 for all */
     const char *trials;   /* the file that the program trials wrote */
     const char *book;     /* the example dispatcher's */
@@ -19,6 +19,7 @@ void compare_runs(const struct plan *plan);
 void compare_stretches(const struct plan *plan);
 void compare_changes(const struct plan *plan);
 void compare_pins(void);
+void compare_decimal(const struct plan *plan);
 void compare_two(const struct plan *plan);
 void compare_refusals(void);
 void compare_lists(const struct plan *plan);
