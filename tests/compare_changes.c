@@ -47,11 +47,11 @@ static bool is_listed(unsigned cell, unsigned address)
 
 /* ---- What was seen ---- */
 
-enum seen { EVENTS, NOT_EXECUTING, NO_CYCLES, CHANGES, DATA, DISPLAY, SCAN, THROUGH_POINTER, SEEN };
+enum seen { EVENTS, NOT_EXECUTING, NO_CYCLES, CHANGES, DATA, DISPLAY, SCAN, THROUGH_POINTER, BY_DAA, BY_DAS, SEEN };
 
 static const char *const seen_name[SEEN] = {
     "events by single steps", "  cycles asleep or interrupted", "  pins, pulses, sound clocks, resets",
-    "changes of cells", "  data", "  display", "  scan", "  through $00F"};
+    "changes of cells", "  data", "  display", "  scan", "  through $00F", "  by DAA", "  by DAS"};
 
 static uint64_t seen[SEEN];
 static uint64_t changed_by_code[CODES]; /* by bits 15-11 of the word */
@@ -69,6 +69,8 @@ static void count_change(unsigned cell, uint16_t word)
     seen[CHANGES]++;
     seen[is_display(cell) ? DISPLAY : cell < 0x300 ? DATA : SCAN]++;
     seen[THROUGH_POINTER] += (word & (code < 8 ? 0x3FF : 0x7F)) == 0x00F;
+    if (code == DECIMAL_CODE)
+        seen[word < 0xCD00 ? BY_DAA : BY_DAS]++;
     changed_by_code[code]++;
 }
 
