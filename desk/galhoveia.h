@@ -67,7 +67,7 @@ extern "C" {
 #define GALHOVEIA_BOOK_BYTES_MOST 8933 /* 16 of contents, the program, 240 elements, the level body */
 #define GALHOVEIA_LINE_BYTES_MOST 21   /* the longest line of a listing, with its line feed */
 #define GALHOVEIA_LISTING_BYTES_MOST 86016
-#define GALHOVEIA_STACK_BYTES_MOST 19360
+#define GALHOVEIA_STACK_BYTES_MOST 19344
 
 /* The answer of every call. Where several refusals apply, the lowest number is told, but 7 only where nothing else
    applies, and in galhoveia_level 10 and 11 come before 9. */
