@@ -2271,79 +2271,40 @@ static void decimal_on_ports(void)
         }
 }
 
-/* Timer0's counter is $95 and its load $51, the next clock counts. */
-static void counting_95(void)
-{
-    counting();
-    record[R_T0_COUNTER] = 0x95;
-}
-
+/* Timer0's counter is $95 and its load $51; the next clock counts. */
 static void decimal_on_the_halves(void)
 {
-    from("02, P6 and P2: $004 is adjusted as it reads, frozen or live, and the read releases");
-    counting_95();
-    set_frozen(12);
-    adjust(DAA, 0x04, 0, 0);
-    gives(2, 1);
-    is("load, DAA of the frozen 12", record[R_T0_LOAD], 0x52);
-    is("counter", record[R_T0_COUNTER], 0x96);
-    is_released();
-    counting_95();
-    adjust(DAA, 0x04, 12, 0);
-    gives(5, 0);
-    is("load, DAA of the live 5", record[R_T0_LOAD], 0x55);
-    is("counter", record[R_T0_COUNTER], 0x96);
-    is_released();
-    counting_95();
-    set_frozen(12);
-    adjust(DAS, 0x04, 5, 1);
-    gives(12, 1);
-    is("load, the frozen 12 by DAS with CY", record[R_T0_LOAD], 0x5C);
-    is_released();
-    counting_95();
-    set_frozen(0);
-    adjust(DAS, 0x04, 5, 0);
-    gives(10, 0);
-    is("load, DAS of a frozen 0", record[R_T0_LOAD], 0x5A);
-    is_released();
-    counting_95();
-    adjust(DAS, 0x04, 12, 0);
-    gives(15, 0);
-    is("load, DAS of the live 5", record[R_T0_LOAD], 0x5F);
+    enum { NONE = 16 };
+    static const struct {
+        const char *what;
+        enum mnemonic mnemonic;
+        uint8_t named, frozen, ac, cy, then, then_cy, load, counter;
+    } cases[] = {
+        {"$004, DAA of the frozen 12", DAA, 0x04, 12, 0, 0, 2, 1, 0x52, 0x96},
+        {"$004, DAA of the live 5, not adjusted", DAA, 0x04, NONE, 12, 0, 5, 0, 0x55, 0x96},
+        {"$004, DAS of the frozen 12 with CY, not adjusted", DAS, 0x04, 12, 5, 1, 12, 1, 0x5C, 0x96},
+        {"$004, DAS of a frozen 0", DAS, 0x04, 0, 5, 0, 10, 0, 0x5A, 0x96},
+        {"$004, DAS of the live 5", DAS, 0x04, NONE, 12, 0, 15, 0, 0x5F, 0x96},
+        {"$005, DAA of 9 with CY", DAA, 0x05, NONE, 0, 1, 15, 1, 0xF1, 0xF2},
+        {"$005, DAA of 9 with CY, one frozen", DAA, 0x05, 6, 0, 1, 15, 1, 0xF1, 0xF2},
+        {"$005, DAA of 9, not adjusted", DAA, 0x05, NONE, 12, 0, 9, 0, 0x91, 0x92},
+        {"$005, DAA of 9, not adjusted, one frozen", DAA, 0x05, 6, 12, 0, 9, 0, 0x91, 0x92},
+        {"$005, DAS of 9", DAS, 0x05, NONE, 6, 0, 3, 0, 0x31, 0x32},
+        {"$005, DAS of 9, one frozen", DAS, 0x05, 6, 6, 0, 3, 0, 0x31, 0x32},
+        {"$005, DAS of 9 with CY, not adjusted", DAS, 0x05, NONE, 6, 1, 9, 1, 0x91, 0x92},
+        {"$005, DAS of 9 with CY, not adjusted, one frozen", DAS, 0x05, 6, 6, 1, 9, 1, 0x91, 0x92},
+    };
 
-    from("02, P6 and P2: $005 reads the live high nibble and freezes; its write loads the counter and releases");
-    for (int frozen = 0; frozen < 2; frozen++) {
-        counting_95();
-        if (frozen)
-            set_frozen(6);
-        adjust(DAA, 0x05, 0, 1);
-        gives(15, 1);
-        is("load, DAA of 9 with CY", record[R_T0_LOAD], 0xF1);
-        is("counter, loaded and clocked", record[R_T0_COUNTER], 0xF2);
-        is_released();
-        counting_95();
-        if (frozen)
-            set_frozen(6);
-        adjust(DAA, 0x05, 12, 0);
-        gives(9, 0);
-        is("load, DAA of 9, not adjusted and stored", record[R_T0_LOAD], 0x91);
-        is("counter, loaded and clocked", record[R_T0_COUNTER], 0x92);
-        is_released();
-        counting_95();
-        if (frozen)
-            set_frozen(6);
-        adjust(DAS, 0x05, 6, 0);
-        gives(3, 0);
-        is("load, DAS of 9", record[R_T0_LOAD], 0x31);
-        is("counter, loaded and clocked", record[R_T0_COUNTER], 0x32);
-        is_released();
-        counting_95();
-        if (frozen)
-            set_frozen(6);
-        adjust(DAS, 0x05, 6, 1);
-        gives(9, 1);
-        is("load, DAS of 9 with CY, not adjusted and stored", record[R_T0_LOAD], 0x91);
-        is("counter, loaded and clocked", record[R_T0_COUNTER], 0x92);
+    from("02, P6 and P2: $004 is adjusted as it reads, frozen or live, $005 as its live nibble; nothing stays frozen");
+    for (size_t at = 0; at < sizeof cases / sizeof cases[0]; at++) {
+        counting();
+        record[R_T0_COUNTER] = 0x95;
+        if (cases[at].frozen != NONE)
+            set_frozen(cases[at].frozen);
+        adjust(cases[at].mnemonic, cases[at].named, cases[at].ac, cases[at].cy);
+        gives(cases[at].then, cases[at].then_cy);
+        is(cases[at].what, record[R_T0_LOAD], cases[at].load);
+        is("counter, clocked", record[R_T0_COUNTER], cases[at].counter);
         is_released();
     }
 }
