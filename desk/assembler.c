@@ -17,8 +17,9 @@ const char program_help[] =
     "  NAME: LDI $020, 5      a label, its own line or before an instruction\n"
     "  DW VALUE               a word as it is\n"
     "Mnemonics are those of the data sheet, section 17. A cell is given with its bank as one address, $000-$3FF; the\n"
-    "forms with a number, DAA and DAS reach $000-$07F. Branches and CALL reach their own half of the program. A value\n"
-    "is a number (18, $12, 0x12) or a name, with + and - between several. Words that no line fills are NOP.\n";
+    "forms with a number, DAA and DAS reach $000-$07F. DAA and DAS adjust the cell, whatever AC holds; AC gets the\n"
+    "result too. Branches and CALL reach their own half of the program. A value is a number (18, $12, 0x12) or a\n"
+    "name, with + and - between several. Words that no line fills are NOP.\n";
 
 enum { NAMES_MOST = 4096, NAME_ROOM = 32, INSTRUCTION_ROOM = 40 };
 

@@ -155,6 +155,10 @@ enum {
    instruction that reads the cell does so, by its name or through $00F, one that then writes it too. A write to $005
    and both resets also release; nothing else does. */
 
+/* DAA and DAS adjust what the cell reads as, whatever the accumulator holds. DAA adds 6 where that is above 9 or the
+   carry is 1, and the carry is then 1; DAS adds 10 where the carry is 0, and leaves the carry. The accumulator and the
+   cell both get the result, modulo 16, also where nothing was added. */
+
 /* Why a run stopped. */
 enum { GALHOVEIA_AT_ADDRESS = 0, GALHOVEIA_AT_UNLISTED = 1, GALHOVEIA_AT_END = 2 };
 

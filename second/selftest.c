@@ -2231,44 +2231,40 @@ static void digits_in_the_cell(void)
         }
 }
 
+static void decimal_on_port(unsigned port, bool through_pointer)
+{
+    static const struct {
+        const char *what;
+        enum mnemonic mnemonic;
+        uint8_t latch, control, pins, ac, cy, then, then_cy;
+    } cases[] = {
+        {"latch 1100, control 1010, pins 0101: DAA of 13", DAA, 0xC, 0xA, 0x5, 4, 0, 3, 1},
+        {"latch 0011, the same: DAS of 7", DAS, 0x3, 0xA, 0x5, 4, 0, 1, 0},
+        {"latch 0001, the same: DAS of 5 with CY, not adjusted and stored", DAS, 0x1, 0xA, 0x5, 4, 1, 5, 1},
+        {"DAA of the pins 2, not adjusted and stored", DAA, 11, 0, 2, 15, 0, 2, 0},
+        {"DAA of the latch 11", DAA, 11, 15, 2, 2, 0, 1, 1},
+    };
+
+    for (size_t at = 0; at < sizeof cases / sizeof cases[0]; at++) {
+        fresh();
+        point_at(0x008 + port);
+        memory[0x008 + port] = cases[at].latch;
+        memory[0x016 + port] = cases[at].control;
+        record[R_PIN_A + port] = cases[at].pins;
+        adjust(cases[at].mnemonic, through_pointer ? 0x0F : 0x08 + port, cases[at].ac, cases[at].cy);
+        gives(cases[at].then, cases[at].then_cy);
+        is(cases[at].what, memory[0x008 + port], cases[at].then);
+        is("pins", record[R_PIN_A + port], cases[at].pins);
+    }
+}
+
 static void decimal_on_ports(void)
 {
     from("02, P6; 01, HOUSE: a port bit is adjusted as it reads, the result goes to the latch");
-    for (unsigned port = 0; port < 4; port++)
-        for (int through_pointer = 0; through_pointer < 2; through_pointer++) {
-            unsigned named = through_pointer ? 0x0F : 0x08 + port;
-            uint8_t *latch = memory + 0x008 + port, *control = memory + 0x016 + port, *pins = record + R_PIN_A + port;
-
-            fresh();
-            point_at(0x008 + port);
-            *latch = 0xC;   /* 1100 */
-            *control = 0xA; /* 1010 */
-            *pins = 0x5;    /* 0101, so that it reads 1101 */
-            adjust(DAA, named, 4, 0);
-            gives(3, 1);
-            is("latch, DAA of 13", *latch, 3);
-            is("pins", *pins, 0x5);
-            /* Latch 0011, so that it reads 0111. */
-            adjust(DAS, named, 4, 0);
-            gives(1, 0);
-            is("latch, DAS of 7", *latch, 1);
-            /* Latch 0001, so that it reads 0101. */
-            adjust(DAS, named, 4, 1);
-            gives(5, 1);
-            is("latch, DAS of 5 with CY, not adjusted and stored", *latch, 5);
-            *latch = 11;
-            *control = 0;
-            *pins = 2;
-            adjust(DAA, named, 15, 0);
-            gives(2, 0);
-            is("latch, DAA of pins 2, not adjusted and stored", *latch, 2);
-            *latch = 11;
-            *control = 15;
-            adjust(DAA, named, 2, 0);
-            gives(1, 1);
-            is("latch, DAA of 11 as it was", *latch, 1);
-            is("pins", *pins, 2);
-        }
+    for (unsigned port = 0; port < 4; port++) {
+        decimal_on_port(port, false);
+        decimal_on_port(port, true);
+    }
 }
 
 /* Timer0's counter is $95 and its load $51; the next clock counts. */

@@ -799,6 +799,31 @@ same out wanted
 printf 'reset' >reset.script
 ends 0 run halves.book reset.script --state half.state --save reset.state
 same reset.state fresh.state
+
+echo "desk: DAA on the cell"
+cat >decimal.asm <<'END'
+        LDI $020, 7
+        ADIM $020, 5    ; 7 + 5
+        LDI $022, 3     ; AC is another
+        DAA $020        ; the digit 2, and one to carry
+        STA $021
+END
+ends 0 book make decimal.book decimal.asm small.wiring small.level
+printf 'cycle*5' >five.script
+cat >wanted <<'END'
+5 of 5 events done; stopped at the script's end
+PC $005, AC 2, CY 1, running
+sound channel 1: output 0, count 0; channel 2: output 0, count 0
+changes, with events counted from 0:
+  event 0: $020 0 -> 7  by  000 7BA0 LDI 020 7
+  event 1: $020 7 -> 12  by  001 4AA0 ADIM 020 5
+  event 3: $020 12 -> 2  by  003 CB20 DAA 020
+  event 4: $021 0 -> 2  by  004 3C21 STA 021
+cell $020 (high digit of the level): 3 changes; of 3 instructions that can change it 3 did
+cell $021 (low digit of the level): 1 change; of 1 instruction that can change it 1 did
+END
+ends 0 run decimal.book five.script --watch-level
+same out wanted
 # Nibble and mark are the state's last two bytes.
 for tail in '\001\000' '\017\000' '\020\001' '\377\001' '\000\002' '\005\377'; do
     # shellcheck disable=SC2059
