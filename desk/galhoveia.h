@@ -10,6 +10,7 @@
                chips, any number of entries of two bytes each, a car and its event
      book      a file of the records desk: a program, the wiring of a panel, and where the panel keeps its level
      listing   a program as text: one line for each of its 4,096 words, described at galhoveia_listing_write
+     tables    5,120 numbers of 16 bits: the cross-reference of a program, described at galhoveia_xref_build
 
    Every call answers 0 (done) or the number of a refusal, and always writes *value: the number that goes with the
    refusal, or 0. A refusal leaves every lent byte and every other out value as it was, with one exception, told at
@@ -67,6 +68,9 @@ extern "C" {
 #define GALHOVEIA_BOOK_BYTES_MOST 8933 /* 16 of contents, the program, 240 elements, the level body */
 #define GALHOVEIA_LINE_BYTES_MOST 21   /* the longest line of a listing, with its line feed */
 #define GALHOVEIA_LISTING_BYTES_MOST 86016
+#define GALHOVEIA_XREF_NUMBERS   5120 /* the tables of a cross-reference: a number for each cell and each word */
+#define GALHOVEIA_XREF_NONE      4096 /* in the tables: no address */
+#define GALHOVEIA_XREF_POINTED   0x00F /* the cell under which the tables keep the writers through $00F */
 #define GALHOVEIA_STACK_BYTES_MOST 19344
 
 /* The answer of every call. Where several refusals apply, the lowest number is told, but 7 only where nothing else
@@ -80,16 +84,19 @@ enum {
     GALHOVEIA_RECORD = 4,         /* the record is not 45 bytes long, or breaks a rule listed below; value: 0 */
     GALHOVEIA_UNKNOWN_EVENT = 5,  /* an event byte means nothing; value: the first such place, counted from 0 */
     GALHOVEIA_UNLISTED_WORD = 6,  /* a cycle would execute a word that is no instruction; value: its program address */
-    GALHOVEIA_ROOM = 7,           /* the area for the result is too small; value: the bytes needed */
+    GALHOVEIA_ROOM = 7,           /* the area for the result is too small; value: the bytes needed, or of tables the
+                                     numbers */
     GALHOVEIA_ASKED_CELL = 8,     /* the cell asked about is no data, display or scan cell; value: that cell */
     GALHOVEIA_DIGIT = 9,          /* a digit of the level is above 7; value: 0 the high digit, 1 the low one */
     GALHOVEIA_LENGTH = 10,        /* a book's contents or length, or the length of a body, is wrong; value: 0 */
     GALHOVEIA_BODY = 11,          /* a body holds a value out of its rule; value: the kind, 2 wiring, 3 level */
     GALHOVEIA_OPTIONS = 12,       /* options above 7 asked of a fresh machine; value: the options */
+    GALHOVEIA_FIELD = 13,         /* a program address above 4095; value: 0 */
     GALHOVEIA_LISTING = 26,       /* a text is no listing; value: the number of good lines that it begins with, so the
                                      first bad line, counted from 0 */
     GALHOVEIA_CAR = 27,           /* a car above 1 in a script of two cars; value: the first such byte's place */
-    GALHOVEIA_CUT_ENTRY = 28      /* a script of two cars ends behind a car; value: that byte's place */
+    GALHOVEIA_CUT_ENTRY = 28,     /* a script of two cars ends behind a car; value: that byte's place */
+    GALHOVEIA_TABLES = 29         /* the tables are not the cross-reference of the program lent with them; value: 0 */
 };
 
 /* The memory. Cells that exist: $000-$01F registers, $020-$16F data, $300-$348 display, $358-$36D scan, $370-$377
@@ -208,6 +215,33 @@ uint32_t galhoveia_run_two(const uint8_t *program, size_t program_len, const uin
    stay. 8,192 bytes are always room enough. Can answer 1, 7, 8. */
 uint32_t galhoveia_list(const uint8_t *program, size_t program_len, uint32_t cell,
                         uint8_t *addresses, size_t room, uint64_t *count, uint64_t *value);
+
+/* Builds the cross-reference of a program: for every cell that galhoveia_list can be asked about the addresses of its
+   writers, in tables that answer cell after cell and are kept up as words are replaced. An instruction that writes the
+   cell it names is kept under that cell, one that writes through $00F once, under GALHOVEIA_XREF_POINTED. The tables
+   are numbers of 16 bits in the processor's own order, and their length counts numbers:
+
+     tables[c]         for c 0 to 1023, the lowest address kept under cell c
+     tables[1024 + a]  for a 0 to 4095, the next higher address kept under the same cell as address a
+
+   GALHOVEIA_XREF_NONE stands where there is none, so also at every cell that nothing is kept under and at every
+   address that is kept under none. Numbers beyond the first GALHOVEIA_XREF_NUMBERS stay. Can answer 1, 7 (with
+   GALHOVEIA_XREF_NUMBERS). */
+uint32_t galhoveia_xref_build(const uint8_t *program, size_t program_len, uint16_t *tables, size_t tables_len,
+                              uint64_t *value);
+
+/* Answers what galhoveia_list answers, from the tables: the cell's own writers joined with those through $00F. The
+   tables must be the program's: fewer than GALHOVEIA_XREF_NUMBERS numbers, or one among these that is not as
+   galhoveia_xref_build would write it, is 29. Can answer, in this order, 1, 8, 29, 7. */
+uint32_t galhoveia_xref_list(const uint8_t *program, size_t program_len, const uint16_t *tables, size_t tables_len,
+                             uint32_t cell, uint8_t *addresses, size_t room, uint64_t *count, uint64_t *value);
+
+/* Replaces the program's word at an address by any other, listed or not, and keeps the tables up with it: after it they
+   are what galhoveia_xref_build gives for the new program, and numbers beyond them stay. Can answer, in this order,
+   1, 13 (an address above 4095), 29 (the tables are not those of the program before); then neither the program nor the
+   tables are touched. */
+uint32_t galhoveia_xref_replace(uint8_t *program, size_t program_len, uint16_t *tables, size_t tables_len,
+                                uint32_t address, uint16_t word, uint64_t *value);
 
 /* Reads the level that the panel stands at: 8 x high digit + low digit - ground, from -63 to 63, basements negative.
    `body` is a book's level body of 5 bytes: the cell of the high digit (2 bytes, high byte first), the cell of the low
