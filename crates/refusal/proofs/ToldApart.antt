@@ -4,7 +4,7 @@ use mathlib.Core.Bool.{cond}
 use Prim.Native.Nat.{ℕ}
 use lib.Dec.{eqb}
 use Rattle.refusal.specs.declared.Refusal.{Refusal}
-use Rattle.refusal.specs.declared.Refusal.the-variants.{ProgramLength, MemoryLength, CellRule, Record, UnknownEvent, UnlistedWord, Room, NotAskable, Digit, Contents, Body, Options, Field, Listing, Car, CutEntry}
+use Rattle.refusal.specs.declared.Refusal.the-variants.{ProgramLength, MemoryLength, CellRule, Record, UnknownEvent, UnlistedWord, Room, NotAskable, Digit, Contents, Body, Options, Field, Listing, Car, CutEntry, Tables}
 use Rattle.refusal.specs.Refusal.{numberOf, valueOf}
 
 -- the reason of a number and a value
@@ -25,7 +25,8 @@ reasonOf n v =
     (cond (eqb n 13) Field
     (cond (eqb n 26) (Listing v)
     (cond (eqb n 27) (Car v)
-    (CutEntry v)))))))))))))))
+    (cond (eqb n 28) (CutEntry v)
+    Tables)))))))))))))))
 
 reason-back : (a : Refusal) → reasonOf (numberOf a) (valueOf a) ≡ a
 reason-back (ProgramLength v) = refl
@@ -44,6 +45,7 @@ reason-back Field = refl
 reason-back (Listing v) = refl
 reason-back (Car v) = refl
 reason-back (CutEntry v) = refl
+reason-back Tables = refl
 
 pub told-apart : (a b : Refusal) → numberOf a ≡ numberOf b → valueOf a ≡ valueOf b → a ≡ b
 told-apart a b n v =

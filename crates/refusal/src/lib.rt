@@ -19,6 +19,7 @@ pub enum Refusal {
     Listing(u64),
     Car(u64),
     CutEntry(u64),
+    Tables,
 }
 
 // The table's number.
@@ -42,6 +43,7 @@ pub fn number(why: Refusal) -> u32
         Refusal::Listing(_) => 26,
         Refusal::Car(_) => 27,
         Refusal::CutEntry(_) => 28,
+        Refusal::Tables => 29,
     }
 }
 
@@ -66,5 +68,6 @@ pub fn value(why: Refusal) -> u64
         Refusal::Listing(line) => line,
         Refusal::Car(place) => place,
         Refusal::CutEntry(place) => place,
+        Refusal::Tables => 0,
     }
 }
