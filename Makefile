@@ -52,7 +52,7 @@ BENCH_LIB = build/bench/host.o
 endif
 
 CRATES = crates.txt $(wildcard crates/*/src/*.rt)
-SECOND = second/second.c second/two.c second/search.c second/instruction.c second/listing.c
+SECOND = second/second.c second/two.c second/search.c second/instruction.c second/listing.c second/xref.c
 DESK = $(wildcard desk/*.c)
 COMPARE = $(wildcard tests/compare*.c) tests/support.c tests/lending.c tests/counting.c tests/machines.c tests/forms.c
 TEXT = tests/text.c desk/assembler.c desk/files.c desk/listing.c desk/mnemonics.c desk/refusal.c desk/texts.c

@@ -12,6 +12,8 @@ bool second_is_well_formed(const struct second_machine *machine);
 
 bool second_is_known(uint8_t event);
 
+bool second_is_data_display_or_scan(uint32_t cell);
+
 bool second_is_wiring_length(size_t length);
 bool second_is_good_wiring(const uint8_t *body, size_t length); /* of such a length */
 

@@ -1,12 +1,14 @@
-/* Finds by trial whether an instruction word can change a cell: it executes the word in every state that could
-   matter and looks at the cell afterwards, so it rests on no list of which mnemonics write. */
+/* Finds by trial which cells an instruction word can change: it executes the word in every state that could matter and
+   looks at the cells afterwards, so it rests on no list of which mnemonics write. */
 #include "search.h"
 
+#include "judging.h"
 #include "second.h"
 
 #include <stddef.h>
+#include <string.h>
 
-enum { DPL = 0x010, DPM = 0x011, DPH = 0x012, NIBBLES = 16, CARRIES = 2 };
+enum { DPL = 0x010, DPM = 0x011, DPH = 0x012, FIRST_DATA = 0x020, LAST_SCAN = 0x36D, NIBBLES = 16, CARRIES = 2 };
 
 /* Cells that do something when read or written, an unmapped one, the pseudo register itself, and the two ends of
    the data cells: through the pointer none of them may reach the asked cell. */
@@ -24,14 +26,19 @@ static void make_plain(struct second_machine *machine)
     second_unpack(machine, memory, record);
 }
 
+static void point_at(struct second_machine *machine, uint16_t cell)
+{
+    machine->cell[DPL] = cell & 15;
+    machine->cell[DPM] = cell >> 4 & 7;
+    machine->cell[DPH] = cell >> 7 & 7;
+}
+
 static bool changes_with_pointer(const struct second_machine *plain, uint16_t word, uint16_t cell, uint16_t pointer)
 {
     struct second_machine start = *plain;
     struct second_machine trial;
 
-    start.cell[DPL] = pointer & 15;
-    start.cell[DPM] = pointer >> 4 & 7;
-    start.cell[DPH] = pointer >> 7 & 7;
+    point_at(&start, pointer);
     for (uint8_t held = 0; held < NIBBLES; held++) {
         start.cell[cell] = held;
         for (uint8_t ac = 0; ac < NIBBLES; ac++) {
@@ -68,4 +75,61 @@ bool search_changes(uint16_t word, uint16_t cell)
             if (changes_with_pointer(&plain, word, cell, elsewhere[place]))
                 return true;
     return false;
+}
+
+/* ---- Which cell a word is kept under ---- */
+
+/* A plain machine in which all data, display and scan cells hold the same nibble; made once, since every word needs
+   all sixteen. */
+static const struct second_machine *machine_holding(uint8_t nibble)
+{
+    static struct second_machine machine[NIBBLES];
+    static bool made;
+
+    for (uint8_t held = 0; !made && held < NIBBLES; held++) {
+        make_plain(&machine[held]);
+        for (uint16_t cell = FIRST_DATA; cell <= LAST_SCAN; cell++)
+            if (second_is_data_display_or_scan(cell))
+                machine[held].cell[cell] = held;
+    }
+    made = true;
+    return &machine[nibble];
+}
+
+/* The data, display or scan cell that the word changes in the first state in which it changes one. What it reads is the
+   same nibble whichever of them it names; the cells between them are unmapped and never change. */
+static uint16_t changed_with_pointer(uint16_t word, uint16_t pointer)
+{
+    struct second_machine start, trial;
+
+    for (uint8_t held = 0; held < NIBBLES; held++) {
+        start = *machine_holding(held);
+        point_at(&start, pointer);
+        for (unsigned state = 0; state < NIBBLES * CARRIES; state++) {
+            uint16_t changed = FIRST_DATA;
+
+            start.ac = state % NIBBLES;
+            start.cy = (uint8_t)(state / NIBBLES);
+            trial = start;
+            if (!second_execute(&trial, word))
+                return SEARCH_NONE;
+            if (memcmp(trial.cell + FIRST_DATA, start.cell + FIRST_DATA, LAST_SCAN + 1 - FIRST_DATA) == 0)
+                continue;
+            while (trial.cell[changed] == start.cell[changed])
+                changed++;
+            return changed;
+        }
+    }
+    return SEARCH_NONE;
+}
+
+/* A cell that the word changes wherever the pointer stands is the one that it names; where the changed cell goes with
+   the pointer, it writes through $00F. */
+uint16_t search_kept_under(uint16_t word)
+{
+    uint16_t changed = changed_with_pointer(word, FIRST_DATA);
+
+    if (changed == SEARCH_NONE || changed == changed_with_pointer(word, LAST_SCAN))
+        return changed;
+    return SEARCH_POINTED;
 }

@@ -844,7 +844,7 @@ static bool is_display(uint32_t cell)
     return 0x300 <= cell && cell <= 0x348;
 }
 
-static bool is_data_display_or_scan(uint32_t cell)
+bool second_is_data_display_or_scan(uint32_t cell)
 {
     return (0x020 <= cell && cell <= 0x16F) || is_display(cell) || (0x358 <= cell && cell <= 0x36D);
 }
@@ -926,7 +926,7 @@ uint32_t second_list(const uint8_t *program, size_t program_len, uint32_t cell,
 
     if (program_len != SECOND_PROGRAM_BYTES)
         return answer(value, PROGRAM_LENGTH, program_len);
-    if (!is_data_display_or_scan(cell))
+    if (!second_is_data_display_or_scan(cell))
         return answer(value, ASKED_CELL, cell);
     memset(known, UNASKED, sizeof known);
     for (unsigned address = 0; address < SECOND_WORDS; address++) {
@@ -976,7 +976,8 @@ static bool is_good_level(const uint8_t *body)
     uint16_t high = pair_at(body);
     uint16_t low = pair_at(body + 2);
 
-    return is_data_display_or_scan(high) && is_data_display_or_scan(low) && high != low && body[4] <= GROUND_LAST;
+    return second_is_data_display_or_scan(high) && second_is_data_display_or_scan(low) && high != low
+           && body[4] <= GROUND_LAST;
 }
 
 uint32_t second_level(const uint8_t *memory, size_t memory_len, const uint8_t *body, size_t body_len,

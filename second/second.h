@@ -17,6 +17,9 @@
 /* A listing of 4,096 lines, each as long as the longest: 011 68A0 EORIM 020 1 and its line feed. */
 #define SECOND_LISTING_BYTES_MOST (21 * SECOND_WORDS)
 
+/* The cross-reference of a program: a number for each cell, then one for each address. */
+#define SECOND_XREF_NUMBERS (SECOND_CELLS + SECOND_WORDS)
+
 enum second_reason { SECOND_AT_ADDRESS = 0, SECOND_AT_UNLISTED = 1, SECOND_AT_END = 2 };
 enum second_mode { SECOND_RUNNING = 0, SECOND_HALT = 1, SECOND_STOP = 2 };
 
@@ -43,6 +46,16 @@ uint32_t second_run_two(const uint8_t *program, size_t program_len, const uint8_
 
 uint32_t second_list(const uint8_t *program, size_t program_len, uint32_t cell,
                      uint8_t *addresses, size_t room, uint64_t *count, uint64_t *value);
+
+/* A program's writers in lent tables, counted in numbers (xref.c). */
+uint32_t second_xref_build(const uint8_t *program, size_t program_len, uint16_t *tables, size_t tables_len,
+                           uint64_t *value);
+
+uint32_t second_xref_list(const uint8_t *program, size_t program_len, const uint16_t *tables, size_t tables_len,
+                          uint32_t cell, uint8_t *addresses, size_t room, uint64_t *count, uint64_t *value);
+
+uint32_t second_xref_replace(uint8_t *program, size_t program_len, uint16_t *tables, size_t tables_len,
+                             uint32_t address, uint16_t word, uint64_t *value);
 
 uint32_t second_level(const uint8_t *memory, size_t memory_len, const uint8_t *body, size_t body_len,
                       int32_t *level, uint64_t *value);
