@@ -4033,6 +4033,490 @@ static void two_cars(void)
     two_wirings_and_rooms();
 }
 
+/* ---- The cross-reference ---- */
+
+enum { NUMBERS = 5120, NEXT = 1024, NONE = 4096, BEYOND = 3, CHAIN_MOST = 8, OLD_NUMBER = 0xEEEE };
+
+static uint16_t tables[NUMBERS + BEYOND];
+
+/* What is kept under a cell, by hand: its addresses in order, ended by NONE. */
+struct chain {
+    unsigned cell;
+    unsigned address[CHAIN_MOST];
+};
+
+/* All numbers, those of the chains and 4,096 at every other place, and those beyond as they were. */
+static void tables_are(const char *what, const struct chain *chains, size_t count)
+{
+    static uint16_t wanted[NUMBERS];
+    unsigned wrong = 0;
+
+    for (int at = 0; at < NUMBERS; at++)
+        wanted[at] = NONE;
+    for (size_t at = 0; at < count; at++) {
+        uint16_t *link = &wanted[chains[at].cell];
+
+        for (const unsigned *address = chains[at].address; *address != NONE; address++) {
+            *link = (uint16_t)*address;
+            link = &wanted[NEXT + *address];
+        }
+    }
+    for (int at = 0; at < NUMBERS; at++)
+        wrong += tables[at] != wanted[at];
+    for (int at = NUMBERS; at < NUMBERS + BEYOND; at++)
+        wrong += tables[at] != OLD_NUMBER;
+    is(what, wrong, 0);
+}
+
+#define TABLES_ARE(what, chains) tables_are(what, chains, sizeof chains / sizeof chains[0])
+
+static void build(void)
+{
+    for (int at = 0; at < NUMBERS + BEYOND; at++)
+        tables[at] = OLD_NUMBER;
+    told = 99;
+    is("building", second_xref_build(program, sizeof program, tables, NUMBERS + BEYOND, &told), 0);
+    is("value", (long long)told, 0);
+}
+
+static uint8_t answered[8192];
+static uint64_t answered_bytes;
+
+static uint32_t ask(uint32_t cell, size_t room)
+{
+    memset(answered, 0xEE, sizeof answered);
+    answered_bytes = 99;
+    told = 99;
+    return second_xref_list(program, sizeof program, tables, NUMBERS + BEYOND, cell, answered, room, &answered_bytes,
+                            &told);
+}
+
+/* What a cell answers, by hand, ended by NONE. */
+static void answers(unsigned cell, const unsigned *addresses)
+{
+    size_t count = 0;
+
+    is("asking", ask(cell, sizeof answered), 0);
+    is("value", (long long)told, 0);
+    for (; addresses[count] != NONE; count++)
+        is("an address", answered[2 * count] << 8 | answered[2 * count + 1], addresses[count]);
+    is("bytes", (long long)answered_bytes, (long long)(2 * count));
+    is("beyond", answered[2 * count], 0xEE);
+}
+
+#define ANSWERS(cell, ...) answers(cell, (unsigned[]){__VA_ARGS__})
+
+static void kept_under_cells(void)
+{
+    static const struct chain twelfth[] = {{0x020, {0x011, NONE}}, {0x00F, {0x012, NONE}}, {0x0A0, {0x013, NONE}}};
+    static const struct chain one_cell[] = {{0x020, {0x000, 0x001, 0x7FF, 0x800, 0xFFF, NONE}}};
+    static const struct chain through[] = {
+        {0x00F, {0x004, 0x009, 0xFFF, NONE}}, {0x16F, {0x007, 0x00A, NONE}}, {0x348, {0x003, NONE}}};
+
+    from("01, number 12, in tables (02, P7)");
+    fresh();
+    put(0x010, 0x4820);
+    put(0x011, 0x48A0);
+    put(0x012, 0x3C0F);
+    put(0x013, 0x3CA0);
+    put(0x014, 0x77A0);
+    build();
+    TABLES_ARE("its tables", twelfth);
+    ANSWERS(0x020, 0x011, 0x012, NONE);
+    ANSWERS(0x0A0, 0x012, 0x013, NONE);
+    ANSWERS(0x021, 0x012, NONE);
+
+    from("02, P7: a cell's writers, ascending, from the first address to the last");
+    fresh();
+    put(0x000, made(LDI, 0x20, 0));
+    put(0x001, made(DAA, 0x20, 0));
+    put(0x7FF, made(ADCM, 0x020, 0));
+    put(0x800, made(SBIM, 0x20, 1));
+    put(0xFFF, made(STA, 0x020, 0));
+    build();
+    TABLES_ARE("one cell's", one_cell);
+    ANSWERS(0x020, 0x000, 0x001, 0x7FF, 0x800, 0xFFF, NONE);
+    ANSWERS(0x021, NONE);
+
+    from("02, P7: writers through $00F are kept once and joined in the answer");
+    fresh();
+    put(0x003, made(EORM, 0x348, 0));
+    put(0x004, made(STA, 0x00F, 0));
+    put(0x007, made(STA, 0x16F, 0));
+    put(0x009, made(LDI, 0x0F, 3));
+    put(0x00A, made(ORM, 0x16F, 0));
+    put(0xFFF, made(DAS, 0x0F, 0));
+    build();
+    TABLES_ARE("those through $00F", through);
+    ANSWERS(0x16F, 0x004, 0x007, 0x009, 0x00A, 0xFFF, NONE);
+    ANSWERS(0x348, 0x003, 0x004, 0x009, 0xFFF, NONE);
+    ANSWERS(0x358, 0x004, 0x009, 0xFFF, NONE);
+
+    from("02, P7: a program that writes nothing");
+    fresh();
+    build();
+    tables_are("all 4,096", NULL, 0);
+    ANSWERS(0x020, NONE);
+}
+
+/* One word after the other, from address 0 on; between them they have every mnemonic that writes. */
+static void every_kind_of_writer(void)
+{
+    static const struct {
+        enum mnemonic mnemonic;
+        unsigned first, second, cell;
+    } kept[] = {
+        {ADCM, 0x020, 0, 0x020}, {ADDM, 0x16F, 0, 0x16F}, {SBCM, 0x300, 0, 0x300}, {SUBM, 0x348, 0, 0x348},
+        {EORM, 0x358, 0, 0x358}, {ORM, 0x36D, 0, 0x36D}, {ANDM, 0x080, 0, 0x080}, {STA, 0x07F, 0, 0x07F},
+        {ADIM, 0x21, 1, 0x021}, {SBIM, 0x22, 15, 0x022}, {EORIM, 0x23, 1, 0x023}, {ORIM, 0x24, 8, 0x024},
+        {ANDIM, 0x25, 14, 0x025}, {LDI, 0x26, 0, 0x026}, {DAA, 0x27, 0, 0x027}, {DAS, 0x28, 0, 0x028},
+        {STA, 0x08F, 0, 0x08F}, {STA, 0x10F, 0, 0x10F}, {STA, 0x30F, 0, 0x30F}, {ANDIM, 0x0F, 0, 0x00F},
+    };
+    struct chain chains[sizeof kept / sizeof kept[0]];
+
+    from("02, P7: every mnemonic that writes; every area at its ends; $00F's X in other banks is no $00F");
+    fresh();
+    for (unsigned at = 0; at < sizeof kept / sizeof kept[0]; at++) {
+        put(at, made(kept[at].mnemonic, kept[at].first, kept[at].second));
+        chains[at] = (struct chain){kept[at].cell, {at, NONE}};
+    }
+    build();
+    TABLES_ARE("each under its cell", chains);
+    ANSWERS(0x30F, 18, 19, NONE);
+    ANSWERS(0x028, 15, 19, NONE);
+}
+
+static void kept_under_none(void)
+{
+    static const uint16_t words[] = {
+        /* unlisted */
+        0xCB80, 0xCBA0, 0xCDA0, 0xC820, 0xD120, 0xD401, 0xF020, 0xFFFE,
+        /* 0 added, subtracted, exclusive or, or; and with 15; of a data cell and through $00F */
+        0x4820, 0x5820, 0x6020, 0x6820, 0x77A0, 0x480F, 0x580F, 0x600F, 0x680F, 0x778F,
+        /* ADC, ADD, LDA $020, ADI, SBI $20,1; LDA, ADI $0F */
+        0x0020, 0x0820, 0x3820, 0x40A0, 0x50A0, 0x380F, 0x408F,
+        /* STA $00E, $010, $011, $012, $000, $01F; LDI $10,5; DAA $10; ADIM $1E,1 */
+        0x3C0E, 0x3C10, 0x3C11, 0x3C12, 0x3C00, 0x3C1F, 0x7A90, 0xCB10, 0x489E,
+        /* STA $370, $377, ADCM $372: sound */
+        0x3F70, 0x3F77, 0x0772,
+        /* STA $170, $2FF, $349, $357, $36E, $36F, $378, $3FF, $18F: no cells */
+        0x3D70, 0x3EFF, 0x3F49, 0x3F57, 0x3F6E, 0x3F6F, 0x3F78, 0x3FFF, 0x3D8F,
+        /* BNZ, CALL $020, RTNW 2,0, RTNI, HALT, STOP, JMP $020, SHR, TJMP, NOP */
+        0x8020, 0xC020, 0xD020, 0xD400, 0xD800, 0xDC00, 0xE020, 0xF000, 0xF7FF, 0xFFFF,
+    };
+    static const struct chain only[] = {{0x020, {0x800, NONE}}};
+
+    from("02, P7: registers, sound cells, unmapped ones, unlisted words and what changes nothing are kept under none");
+    fresh();
+    for (unsigned at = 0; at < sizeof words / sizeof words[0]; at++)
+        put(at, words[at]);
+    build();
+    tables_are("all 4,096", NULL, 0);
+    put(0x800, made(STA, 0x020, 0));
+    build();
+    TABLES_ARE("but one", only);
+    ANSWERS(0x020, 0x800, NONE);
+    ANSWERS(0x036D, NONE);
+}
+
+/* Below $080: 8 memory forms, ADIM SBIM EORIM ORIM ANDIM with 15 immediates each, LDI with 16, DAA, DAS; as many
+   through $00F. From $080 up only the memory forms can name a cell. */
+static void counted_over_all_words(void)
+{
+    static unsigned words_under[SEARCH_NONE + 1];
+    unsigned wrong = 0;
+
+    from("reading 26, counted over all words by the cell that they are kept under");
+    for (uint32_t word = 0; word <= 0xFFFF; word++)
+        words_under[search_kept_under((uint16_t)word)]++;
+    for (unsigned cell = 0; cell < 0x400; cell++) {
+        bool near = (cell >= 0x020 && cell <= 0x07F) || cell == 0x00F;
+        bool far = (cell >= 0x080 && cell <= 0x16F) || (cell >= 0x300 && cell <= 0x348)
+                   || (cell >= 0x358 && cell <= 0x36D);
+
+        wrong += words_under[cell] != (near ? 101 : far ? 8 : 0);
+    }
+    is("cells with another number of words", wrong, 0);
+    is("kept under none: 65,536 - 97 x 101 - 335 x 8", words_under[SEARCH_NONE], 53059);
+}
+
+/* The same word 4,096 times: each address leads to the one after it. */
+static void all_under_one(unsigned word, unsigned cell)
+{
+    unsigned wrong = 0;
+
+    fresh();
+    for (unsigned address = 0; address < 4096; address++)
+        put(address, word);
+    build();
+    for (unsigned at = 0; at < NEXT; at++)
+        wrong += tables[at] != (at == cell ? 0 : NONE);
+    for (unsigned address = 0; address < 4096; address++)
+        wrong += tables[NEXT + address] != address + 1;
+    is("numbers that are wrong", wrong, 0);
+    is("the longest answer", ask(0x020, 8192), 0);
+    is("its bytes", (long long)answered_bytes, 8192);
+    for (unsigned address = 0; address < 4096; address++)
+        wrong += (unsigned)(answered[2 * address] << 8 | answered[2 * address + 1]) != address;
+    is("addresses that are wrong", wrong, 0);
+}
+
+/* $020 has the writers $00A, $014 and $01E, $021 has $00F, and $019 writes through $00F; $032 is unlisted. */
+static void five_writers(void)
+{
+    fresh();
+    put(0x00A, made(STA, 0x020, 0));
+    put(0x014, made(STA, 0x020, 0));
+    put(0x01E, made(LDI, 0x20, 4));
+    put(0x00F, made(STA, 0x021, 0));
+    put(0x019, made(STA, 0x00F, 0));
+    put(0x032, 0xC800);
+    build();
+}
+
+static void replaced_by_each_kind(void)
+{
+    static const struct {
+        const char *what;
+        unsigned address, word;
+        struct chain chains[4]; /* as many as there are; the cell of one that is not is 0 */
+    } cases[] = {
+        {"one in the middle goes to another cell", 0x014, 0x3C21,
+         {{0x020, {0x00A, 0x01E, NONE}}, {0x021, {0x00F, 0x014, NONE}}, {0x00F, {0x019, NONE}}}},
+        {"the first goes to another cell", 0x00A, 0x3C21,
+         {{0x020, {0x014, 0x01E, NONE}}, {0x021, {0x00A, 0x00F, NONE}}, {0x00F, {0x019, NONE}}}},
+        {"the last goes to another cell", 0x01E, 0x3C21,
+         {{0x020, {0x00A, 0x014, NONE}}, {0x021, {0x00F, 0x01E, NONE}}, {0x00F, {0x019, NONE}}}},
+        {"one goes to a cell that had none", 0x014, 0x3F6D,
+         {{0x020, {0x00A, 0x01E, NONE}}, {0x021, {0x00F, NONE}}, {0x00F, {0x019, NONE}}, {0x36D, {0x014, NONE}}}},
+        {"the only one goes to another cell", 0x00F, 0x3C20,
+         {{0x020, {0x00A, 0x00F, 0x014, 0x01E, NONE}}, {0x00F, {0x019, NONE}}}},
+        {"the first goes to none", 0x00A, 0xFFFF,
+         {{0x020, {0x014, 0x01E, NONE}}, {0x021, {0x00F, NONE}}, {0x00F, {0x019, NONE}}}},
+        {"one in the middle goes to none", 0x014, 0x3C10,
+         {{0x020, {0x00A, 0x01E, NONE}}, {0x021, {0x00F, NONE}}, {0x00F, {0x019, NONE}}}},
+        {"the last becomes unlisted", 0x01E, 0xCBA0,
+         {{0x020, {0x00A, 0x014, NONE}}, {0x021, {0x00F, NONE}}, {0x00F, {0x019, NONE}}}},
+        {"the only one comes to change nothing", 0x00F, 0x4821,
+         {{0x020, {0x00A, 0x014, 0x01E, NONE}}, {0x00F, {0x019, NONE}}}},
+        {"address 0 becomes the first", 0x000, 0xCD20,
+         {{0x020, {0x000, 0x00A, 0x014, 0x01E, NONE}}, {0x021, {0x00F, NONE}}, {0x00F, {0x019, NONE}}}},
+        {"the last address becomes the last", 0xFFF, 0x0421,
+         {{0x020, {0x00A, 0x014, 0x01E, NONE}}, {0x021, {0x00F, 0xFFF, NONE}}, {0x00F, {0x019, NONE}}}},
+        {"an unlisted word becomes a writer", 0x032, 0x3C20,
+         {{0x020, {0x00A, 0x014, 0x01E, 0x032, NONE}}, {0x021, {0x00F, NONE}}, {0x00F, {0x019, NONE}}}},
+        {"an unlisted word becomes another", 0x032, 0xFFFE,
+         {{0x020, {0x00A, 0x014, 0x01E, NONE}}, {0x021, {0x00F, NONE}}, {0x00F, {0x019, NONE}}}},
+        {"one between two", 0x013, 0x7820,
+         {{0x020, {0x00A, 0x013, 0x014, 0x01E, NONE}}, {0x021, {0x00F, NONE}}, {0x00F, {0x019, NONE}}}},
+        {"one comes to write through $00F", 0x014, 0x780F,
+         {{0x020, {0x00A, 0x01E, NONE}}, {0x021, {0x00F, NONE}}, {0x00F, {0x014, 0x019, NONE}}}},
+        {"the only one through $00F names a cell", 0x019, 0x3C21,
+         {{0x020, {0x00A, 0x014, 0x01E, NONE}}, {0x021, {0x00F, 0x019, NONE}}}},
+        {"none comes to write through $00F", 0xFFF, 0xCB0F,
+         {{0x020, {0x00A, 0x014, 0x01E, NONE}}, {0x021, {0x00F, NONE}}, {0x00F, {0x019, 0xFFF, NONE}}}},
+        {"the only one through $00F goes to none", 0x019, 0x480F,
+         {{0x020, {0x00A, 0x014, 0x01E, NONE}}, {0x021, {0x00F, NONE}}}},
+        {"another writer of the same cell", 0x014, 0x48A0,
+         {{0x020, {0x00A, 0x014, 0x01E, NONE}}, {0x021, {0x00F, NONE}}, {0x00F, {0x019, NONE}}}},
+        {"the same word", 0x014, 0x3C20,
+         {{0x020, {0x00A, 0x014, 0x01E, NONE}}, {0x021, {0x00F, NONE}}, {0x00F, {0x019, NONE}}}},
+        {"a display cell", 0x014, 0x3F00,
+         {{0x020, {0x00A, 0x01E, NONE}}, {0x021, {0x00F, NONE}}, {0x00F, {0x019, NONE}}, {0x300, {0x014, NONE}}}},
+        {"a sound cell", 0x014, 0x3F70,
+         {{0x020, {0x00A, 0x01E, NONE}}, {0x021, {0x00F, NONE}}, {0x00F, {0x019, NONE}}}},
+    };
+
+    from("02, P7: replacing one word, each number worked out by hand");
+    for (size_t at = 0; at < sizeof cases / sizeof cases[0]; at++) {
+        uint8_t wanted[8192];
+        size_t chains = 0;
+
+        five_writers();
+        memcpy(wanted, program, sizeof wanted);
+        wanted[2 * cases[at].address] = (uint8_t)(cases[at].word >> 8);
+        wanted[2 * cases[at].address + 1] = (uint8_t)cases[at].word;
+        told = 99;
+        is(cases[at].what, second_xref_replace(program, sizeof program, tables, NUMBERS + BEYOND, cases[at].address,
+                                               (uint16_t)cases[at].word, &told), 0);
+        is("value", (long long)told, 0);
+        is("the words", memcmp(program, wanted, sizeof wanted), 0);
+        while (chains < 4 && cases[at].chains[chains].cell != 0)
+            chains++;
+        tables_are(cases[at].what, cases[at].chains, chains);
+    }
+}
+
+/* One word after another, so that a cell loses all its writers and gets them again in another order. */
+static void replaced_again_and_again(void)
+{
+    static const struct chain away[] = {{0x00F, {0x019, NONE}}};
+    static const struct chain back[] = {
+        {0x020, {0x000, 0x00A, 0xFFF, NONE}}, {0x00F, {0x014, 0x019, NONE}}, {0x348, {0x00F, NONE}}};
+    static const struct {
+        unsigned address, word;
+    } gone[] = {{0x014, 0xFFFF}, {0x00F, 0x3820}, {0x00A, 0xCB80}, {0x01E, 0x778F}},
+      put_again[] = {{0xFFF, 0x3C20}, {0x00F, 0x3F48}, {0x000, 0x7FA0}, {0x014, 0x3C0F}, {0x00A, 0xCD20}};
+
+    from("02, P7: replacements one after another");
+    five_writers();
+    for (size_t at = 0; at < sizeof gone / sizeof gone[0]; at++)
+        is("one goes", second_xref_replace(program, sizeof program, tables, NUMBERS + BEYOND, gone[at].address,
+                                           (uint16_t)gone[at].word, &told), 0);
+    TABLES_ARE("only one through $00F is left", away);
+    for (size_t at = 0; at < sizeof put_again / sizeof put_again[0]; at++)
+        is("one comes", second_xref_replace(program, sizeof program, tables, NUMBERS + BEYOND, put_again[at].address,
+                                            (uint16_t)put_again[at].word, &told), 0);
+    TABLES_ARE("others are kept", back);
+    ANSWERS(0x020, 0x000, 0x00A, 0x014, 0x019, 0xFFF, NONE);
+    ANSWERS(0x348, 0x00F, 0x014, 0x019, NONE);
+}
+
+/* ---- Refusals of the cross-reference ---- */
+
+static uint8_t program_then[8192];
+static uint16_t tables_then[NUMBERS + BEYOND];
+
+static void keep_as_lent(void)
+{
+    memcpy(program_then, program, sizeof program);
+    memcpy(tables_then, tables, sizeof tables);
+    told = 99;
+}
+
+static void is_as_lent(void)
+{
+    is("a word changed", memcmp(program, program_then, sizeof program) != 0, 0);
+    is("a number changed", memcmp(tables, tables_then, sizeof tables) != 0, 0);
+}
+
+static void build_refused(size_t program_len, size_t tables_len, uint32_t number, uint64_t value)
+{
+    keep_as_lent();
+    is("building", second_xref_build(program, program_len, tables, tables_len, &told), number);
+    is("value", (long long)told, (long long)value);
+    is_as_lent();
+}
+
+static void ask_refused(size_t program_len, size_t tables_len, uint32_t cell, size_t room, uint32_t number,
+                        uint64_t value)
+{
+    keep_as_lent();
+    memset(answered, 0xEE, sizeof answered);
+    answered_bytes = 99;
+    is("asking", second_xref_list(program, program_len, tables, tables_len, cell, answered, room, &answered_bytes,
+                                  &told), number);
+    is("value", (long long)told, (long long)value);
+    is("bytes are left", (long long)answered_bytes, 99);
+    is("addresses are left", answered[0], 0xEE);
+    is_as_lent();
+}
+
+static void replace_refused(size_t program_len, size_t tables_len, uint32_t address, uint32_t number, uint64_t value)
+{
+    keep_as_lent();
+    is("replacing", second_xref_replace(program, program_len, tables, tables_len, address, 0x3C21, &told), number);
+    is("value", (long long)told, (long long)value);
+    is_as_lent();
+}
+
+/* All refusals of a call apply at first; each that was told is then mended. */
+static void cross_references_refused(void)
+{
+    from("02, P7: build, 1 then 7 with the numbers needed");
+    five_writers();
+    put(0x000, made(STA, 0x16F, 0));
+    build_refused(8191, 5119, 1, 8191);
+    build_refused(0, 0, 1, 0);
+    build_refused(4096, 5120, 1, 4096);
+    build_refused(8192, 5119, 7, 5120);
+    build_refused(8192, 0, 7, 5120);
+    from("02, P7: answer, 1 then 8 then 29 then 7 with the bytes needed");
+    ask_refused(8190, 5119, 0x370, 0, 1, 8190);
+    ask_refused(8192, 5119, 0x370, 0, 8, 0x370);
+    ask_refused(8192, 5119, 0x00F, 8192, 8, 0x00F);
+    ask_refused(8192, 5119, 0x10020, 8192, 8, 0x10020);
+    ask_refused(8192, 5120, 0xFFFFFFFF, 8192, 8, 0xFFFFFFFF);
+    ask_refused(8192, 5119, 0x020, 7, 29, 0);
+    ask_refused(8192, 5120, 0x020, 7, 29, 0);
+    put(0x000, 0xFFFF);
+    ask_refused(8192, 5119, 0x020, 8192, 29, 0);
+    ask_refused(8192, 0, 0x020, 8192, 29, 0);
+    ask_refused(8192, 5120, 0x020, 7, 7, 8);
+    ask_refused(8192, 5123, 0x36D, 0, 7, 2);
+    is("done", second_xref_list(program, 8192, tables, 5120, 0x020, answered, 8, &answered_bytes, &told), 0);
+    is("its bytes", (long long)answered_bytes, 8);
+    from("02, P7: replacing, 1 then 13 then 29");
+    put(0x000, made(STA, 0x16F, 0));
+    replace_refused(8193, 5119, 4096, 1, 8193);
+    replace_refused(8192, 5119, 4096, 13, 0);
+    replace_refused(8192, 5120, 0x10000, 13, 0);
+    replace_refused(8192, 5120, 0x1000A, 13, 0);
+    replace_refused(8192, 5120, 0xFFFFFFFF, 13, 0);
+    replace_refused(8192, 5119, 4095, 29, 0);
+    replace_refused(8192, 5120, 4095, 29, 0);
+    replace_refused(8192, 5120, 0x000, 29, 0); /* though the word that does not match is the one to go */
+    put(0x000, 0xFFFF);
+    replace_refused(8192, 4096, 4095, 29, 0);
+    replace_refused(8192, 5120, 4096, 13, 0);
+    is("done", second_xref_replace(program, 8192, tables, 5120, 4095, 0x3C21, &told), 0);
+    is("value", (long long)told, 0);
+    is("the last number", tables[NEXT + 0x00F], 4095);
+}
+
+static void tables_that_do_not_match(void)
+{
+    static const uint16_t places[] = {0x000, 0x00E, 0x00F, 0x020, 0x021, 0x022, 0x16F, 0x370, 0x3FF, NEXT, NEXT + 0x00A,
+                                      NEXT + 0x014, NEXT + 0x019, NEXT + 0x01E, NEXT + 0x032, NEXT + 4095};
+    static const uint16_t others[] = {0, 1, 0x00A, 4095, 4097, 0x8000, 0xFFFF};
+
+    from("02, P7: 29 where a number is not the fresh one");
+    five_writers();
+    for (size_t at = 0; at < sizeof places / sizeof places[0]; at++) {
+        uint16_t right = tables[places[at]];
+
+        for (size_t other = 0; other < sizeof others / sizeof others[0]; other++) {
+            if (others[other] == right)
+                continue;
+            tables[places[at]] = others[other];
+            ask_refused(8192, 5120, 0x036D, 8192, 29, 0);
+            replace_refused(8192, 5123, 0x100, 29, 0);
+        }
+        tables[places[at]] = right;
+    }
+    from("02, P7: numbers beyond the 5,120 are not looked at");
+    tables[NUMBERS] = 0;
+    is("asking", ask(0x020, 8192), 0);
+    from("02, P7: another program with the same writers matches, one with others does not");
+    put(0x014, made(DAA, 0x20, 0));
+    put(0x019, made(LDI, 0x0F, 9));
+    put(0x032, 0xFFFF);
+    put(0x033, made(LDA, 0x020, 0));
+    put(0x034, 0xFFFE);
+    ANSWERS(0x020, 0x00A, 0x014, 0x019, 0x01E, NONE);
+    put(0x034, made(STA, 0x022, 0));
+    ask_refused(8192, 5120, 0x020, 8192, 29, 0);
+    put(0x034, 0xFFFF);
+    put(0x00F, 0xFFFF);
+    replace_refused(8192, 5120, 0x00F, 29, 0); /* though the new word is the one that was there */
+}
+
+static void cross_references(void)
+{
+    kept_under_cells();
+    every_kind_of_writer();
+    kept_under_none();
+    counted_over_all_words();
+    from("02, P7: 4,096 writers of one cell");
+    all_under_one(made(STA, 0x020, 0), 0x020);
+    from("02, P7: 4,096 writers through $00F");
+    all_under_one(made(STA, 0x00F, 0), 0x00F);
+    replaced_by_each_kind();
+    replaced_again_and_again();
+    cross_references_refused();
+    tables_that_do_not_match();
+}
+
 /* ---- Many programs ---- */
 
 static uint32_t seed = 1;
@@ -4207,6 +4691,118 @@ static void many_pairs(void)
     is("runs with another count", wrong_count, 0);
 }
 
+/* Words that name one of four cells, $00F, or none that can be asked about. */
+static const uint16_t four_cells[4] = {0x020, 0x021, 0x300, 0x36D};
+
+static unsigned any_word_of_four(void)
+{
+    static const uint8_t near[] = {0x20, 0x21, 0x0F, 0x10};
+    static const uint16_t rest[] = {0xFFFF, 0xCB80, 0xC820, 0xE020, 0x3F70};
+
+    switch (any(4)) {
+    case 0:
+        return any(16) << 10 | (any(4) ? four_cells[any(4)] : 0x00F);
+    case 1:
+        return (8 + any(8)) << 11 | any(16) << 7 | near[any(4)];
+    case 2:
+        return (any(2) ? 0xCB00 : 0xCD00) | near[any(4)];
+    default:
+        return rest[any(5)];
+    }
+}
+
+/* What such a word is kept under, by which of the four it changes. */
+
+static uint16_t kept_by_changes(uint16_t word)
+{
+    unsigned changed = 0;
+    uint16_t cell = NONE;
+
+    for (int at = 0; at < 4; at++)
+        if (search_changes(word, four_cells[at])) {
+            changed++;
+            cell = four_cells[at];
+        }
+    return changed == 4 ? 0x00F : changed == 1 ? cell : NONE;
+}
+
+static uint16_t kept_at[4096];
+
+/* A table's number by looking upwards from its place: t[k] is the lowest address kept under k, t[1024 + a] the next
+   one above a. */
+static uint16_t lowest_from(unsigned address, uint16_t cell)
+{
+    while (address < 4096 && kept_at[address] != cell)
+        address++;
+    return (uint16_t)address;
+}
+
+static unsigned numbers_that_differ(void)
+{
+    unsigned differ = 0;
+
+    for (uint16_t cell = 0; cell < NEXT; cell++)
+        differ += tables[cell] != lowest_from(0, cell);
+    for (unsigned address = 0; address < 4096; address++)
+        differ += tables[NEXT + address]
+                  != (kept_at[address] == NONE ? NONE : lowest_from(address + 1, kept_at[address]));
+    return differ;
+}
+
+static unsigned answers_that_differ(void)
+{
+    uint8_t listed[8192];
+    uint64_t count;
+    unsigned differ = 0;
+
+    for (int at = 0; at < 4; at++) {
+        memset(listed, 0xEE, sizeof listed);
+        count = 99;
+        (void)second_list(program, 8192, four_cells[at], listed, sizeof listed, &count, &told);
+        differ += ask(four_cells[at], sizeof answered) != 0 || answered_bytes != count
+                  || memcmp(answered, listed, sizeof listed) != 0;
+    }
+    return differ;
+}
+
+/* Tables are what looking upwards gives, at first and after each replacement; an answer is the list (02, P7). */
+static void many_cross_references(void)
+{
+    enum { PROGRAMS = 40, POOL = 40, REPLACEMENTS = 15 };
+    uint16_t pool[POOL], kept[POOL];
+    unsigned differ = 0, wrong_answers = 0, refused = 0;
+
+    from("02, P7: tables of drawn programs, at first and after each replacement");
+    for (int programs = 0; programs < PROGRAMS; programs++) {
+        unsigned drawn = programs % 4 == 0 ? 2 : POOL;
+
+        for (int at = 0; at < POOL; at++) {
+            pool[at] = (uint16_t)any_word_of_four();
+            kept[at] = kept_by_changes(pool[at]);
+        }
+        fresh();
+        for (unsigned address = 0; address < 4096; address++) {
+            unsigned at = any(drawn);
+
+            put(address, pool[at]);
+            kept_at[address] = kept[at];
+        }
+        build();
+        differ += numbers_that_differ();
+        for (int times = 0; times < REPLACEMENTS; times++) {
+            unsigned at = any(POOL), address = any(8) ? any(4096) : any(2) * 4095;
+
+            refused += second_xref_replace(program, 8192, tables, NUMBERS + BEYOND, address, pool[at], &told) != 0;
+            kept_at[address] = kept[at];
+            differ += numbers_that_differ();
+        }
+        wrong_answers += answers_that_differ();
+    }
+    is("replacements refused", refused, 0);
+    is("numbers that differ", differ, 0);
+    is("answers that are not the list", wrong_answers, 0);
+}
+
 int main(void)
 {
     twelve_numbers();
@@ -4238,8 +4834,10 @@ int main(void)
     books();
     listings();
     two_cars();
+    cross_references();
     many_programs();
     many_pairs();
+    many_cross_references();
     printf("%lu passed, %lu failed\n", passed, failed);
     return failed == 0 ? EXIT_SUCCESS : EXIT_FAILURE;
 }
