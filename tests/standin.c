@@ -35,6 +35,24 @@ uint32_t galhoveia_list(const uint8_t *program, size_t program_len, uint32_t cel
     return second_list(program, program_len, cell, addresses, room, count, value);
 }
 
+uint32_t galhoveia_xref_build(const uint8_t *program, size_t program_len, uint16_t *tables, size_t tables_len,
+                              uint64_t *value)
+{
+    return second_xref_build(program, program_len, tables, tables_len, value);
+}
+
+uint32_t galhoveia_xref_list(const uint8_t *program, size_t program_len, const uint16_t *tables, size_t tables_len,
+                             uint32_t cell, uint8_t *addresses, size_t room, uint64_t *count, uint64_t *value)
+{
+    return second_xref_list(program, program_len, tables, tables_len, cell, addresses, room, count, value);
+}
+
+uint32_t galhoveia_xref_replace(uint8_t *program, size_t program_len, uint16_t *tables, size_t tables_len,
+                                uint32_t address, uint16_t word, uint64_t *value)
+{
+    return second_xref_replace(program, program_len, tables, tables_len, address, word, value);
+}
+
 uint32_t galhoveia_level(const uint8_t *memory, size_t memory_len, const uint8_t *body, size_t body_len,
                          int32_t *level, uint64_t *value)
 {
