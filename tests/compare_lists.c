@@ -6,26 +6,13 @@
 
 #include "../desk/galhoveia.h"
 
-#include <stdio.h>
 #include <stdlib.h>
 #include <string.h>
 
 enum { ASKABLE = 431, PROGRAMS = 0x10000 / WORDS, PAIRED_ONE_IN = 32 };
 
 static uint8_t program[PROGRAM_BYTES];
-static uint8_t (*trials)[TRIAL_BYTES];
-
-static void read_trials(const char *path)
-{
-    FILE *file = fopen(path, "rb");
-
-    trials = calloc(0x10000, sizeof *trials);
-    if (trials == NULL || file == NULL || fread(trials, sizeof *trials, 0x10000, file) != 0x10000 || getc(file) != EOF) {
-        printf("%s does not hold the trials of 65536 words\n", path);
-        exit(EXIT_FAILURE);
-    }
-    fclose(file);
-}
+static trial_row *trials;
 
 /* One list, with room for all, against the trials of the program's words. Answers its length in bytes. */
 static size_t list_of(unsigned cell)
@@ -142,7 +129,7 @@ static void list_refusals(void)
 
 void compare_lists(const struct plan *plan)
 {
-    read_trials(plan->trials);
+    trials = read_trials(plan->trials);
     list_refusals();
     forms_for_every_cell(plan->cell_stride);
     all_words(plan->cell_stride);

@@ -1,4 +1,4 @@
-/* A program with every form that could touch a cell or miss it narrowly. */
+/* The trials as they are kept in a file, and a program with every form that could touch a cell or miss it narrowly. */
 #include "forms.h"
 
 #include <stdio.h>
@@ -6,6 +6,19 @@
 #include <string.h>
 
 enum { INX = 0x0F, STA = 0x3C00 };
+
+trial_row *read_trials(const char *path)
+{
+    FILE *file = fopen(path, "rb");
+    trial_row *trials = calloc(0x10000, sizeof *trials);
+
+    if (trials == NULL || file == NULL || fread(trials, sizeof *trials, 0x10000, file) != 0x10000 || getc(file) != EOF) {
+        printf("%s does not hold the trials of 65536 words\n", path);
+        exit(EXIT_FAILURE);
+    }
+    fclose(file);
+    return trials;
+}
 
 static uint8_t *filling;
 static unsigned filled;

@@ -13,7 +13,7 @@
 
 enum { NIBBLES = 16, INX = 0x0F, UNMAPPED = 0x3FF, FIRST = 0x020, END = 0x36E, SEARCHED_ONE_IN = 4 };
 
-static uint8_t trials[0x10000][TRIAL_BYTES];
+static trial_row trials[0x10000];
 
 /* A plain machine for each nibble that all askable cells hold. */
 static struct second_machine plain[NIBBLES];
