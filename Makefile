@@ -191,7 +191,7 @@ test-sanitized: build/sanitized/desk build/sanitized/compare build/sanitized/tex
 	@ASAN_OPTIONS=detect_leaks=0:exitcode=99 UBSAN_OPTIONS=exitcode=99 tests/all.sh build/sanitized/text \
 	    "tests/desk.sh build/sanitized/desk $(FAULTY_DESKS)" \
 	    "build/native/trials build/trials" \
-	    "tests/clean.sh build/sanitized/compare calls --trials build/trials --machines 2 --cell-stride 200 --text-stride 10" \
+	    "tests/clean.sh build/sanitized/compare calls --trials build/trials --machines 2 --cell-stride 200 --text-stride 10 --xref-stride 20" \
 	    "tests/clean.sh build/sanitized/compare runs --book $(BOOK) --events $(SANITIZED_EVENTS) --cell-stride 20"
 
 wrong:

@@ -1,7 +1,8 @@
 /* Compares galhoveia with the second emulator over the C boundary: answers, values, and every lent byte. Two parts, so
-   that they can run side by side: `calls` has every word, refusal, panel, list and listing, `runs` the random events,
-   the quiet stretches, what single steps change, every edge of a port's pins, DAA and DAS on every value of a cell, and
-   two cars over one program. Prints its progress and, as its last line, how many comparisons passed and failed. */
+   that they can run side by side: `calls` has every word, refusal, panel, list, listing and cross-reference, `runs` the
+   random events, the quiet stretches, what single steps change, every edge of a port's pins, DAA and DAS on every value
+   of a cell, and two cars over one program. Prints its progress and, as its last line, how many comparisons passed and
+   failed. */
 #include "compare.h"
 #include "support.h"
 
@@ -20,6 +21,7 @@ static const struct {
     {LEVEL, {0, 2, 3, 9, 10, 11, -1}}, {FRESH, {0, 2, 4, 12, -1}},       {PICTURE, {0, 2, 3, 4, 7, 10, 11, -1}},
     {BOOK_READ, {0, 10, 11, -1}},      {BOOK_WRITE, {0, 7, 10, 11, -1}},     {LISTING_WRITE, {0, 1, 7, -1}},
     {LISTING_READ, {0, 7, 26, -1}},    {RUN_TWO, {0, 1, 2, 3, 4, 5, 7, 10, 11, 27, 28, -1}},
+    {XREF_BUILD, {0, 1, 7, -1}},       {XREF_LIST, {0, 1, 7, 8, 29, -1}},    {XREF_REPLACE, {0, 1, 13, 29, -1}},
 };
 
 /* Every refusal in every call that can answer it, and no other. */
@@ -45,7 +47,8 @@ static void check_reached(void)
 
 static void usage(void)
 {
-    fprintf(stderr, "usage: compare calls --trials FILE [--machines N] [--cell-stride N] [--text-stride N] [--seed N]\n"
+    fprintf(stderr, "usage: compare calls --trials FILE [--machines N] [--cell-stride N] [--text-stride N]\n"
+                    "                     [--xref-stride N] [--seed N]\n"
                     "       compare runs --book FILE [--events N] [--cell-stride N] [--seed N]\n");
     exit(2);
 }
@@ -70,7 +73,7 @@ static double seconds_since(const struct timespec *start)
 
 int main(int argc, char **argv)
 {
-    struct plan plan = {20000000, 8, 1, 1, NULL, NULL};
+    struct plan plan = {20000000, 8, 1, 1, 1, NULL, NULL};
     uint64_t seed = 6754;
     struct timespec start;
     bool calls = argc > 1 && strcmp(argv[1], "calls") == 0, runs = argc > 1 && strcmp(argv[1], "runs") == 0;
@@ -88,6 +91,8 @@ int main(int argc, char **argv)
             plan.cell_stride = (unsigned)number_of(argv[at + 1]);
         else if (calls && strcmp(argv[at], "--text-stride") == 0)
             plan.text_stride = (unsigned)number_of(argv[at + 1]);
+        else if (calls && strcmp(argv[at], "--xref-stride") == 0)
+            plan.xref_stride = (unsigned)number_of(argv[at + 1]);
         else if (calls && strcmp(argv[at], "--trials") == 0)
             plan.trials = argv[at + 1];
         else if (strcmp(argv[at], "--seed") == 0)
@@ -109,6 +114,8 @@ int main(int argc, char **argv)
         compare_lists(&plan);
         progress("  (calls: %.1f s)", seconds_since(&start));
         compare_listings(&plan);
+        progress("  (calls: %.1f s)", seconds_since(&start));
+        compare_xref(&plan);
         progress("  (calls: %.1f s)", seconds_since(&start));
         compare_two_refusals();
         check_reached();

@@ -10,6 +10,7 @@ struct plan {
     unsigned machines;    /* for each of the 65,536 words */
     unsigned cell_stride; /* the lists of one in so many cells are asked for, DAA and DAS tried on these; 1 for all */
     unsigned text_stride; /* of the listings at random and the damaged ones, one in so many is tried; 1 for all */
+    unsigned xref_stride; /* of the cross-references, replacements and damaged tables, one in so many; 1 for all */
     const char *trials;   /* the file that the program trials wrote */
     const char *book;     /* the example dispatcher's */
 };
@@ -25,6 +26,7 @@ void compare_refusals(void);
 void compare_lists(const struct plan *plan);
 void compare_panel(void);
 void compare_listings(const struct plan *plan);
+void compare_xref(const struct plan *plan);
 void compare_two_refusals(void);
 
 #endif

@@ -9,7 +9,8 @@
 #include <string.h>
 
 const char *const call_name[CALLS] = {"step",      "run",        "list",          "level",        "fresh",  "picture",
-                                      "book_read", "book_write", "listing_write", "listing_read", "run_two"};
+                                      "book_read", "book_write", "listing_write", "listing_read", "run_two",
+                                      "xref_build", "xref_list", "xref_replace"};
 unsigned long reached[CALLS][REFUSALS];
 struct after after;
 
@@ -17,7 +18,7 @@ struct after after;
 static const struct after untouched = {
     UINT64_C(0xA1A2A3A4A5A6A7A8), 0xB1B2B3B4, UINT64_C(0xC1C2C3C4C5C6C7C8), -0x1D2D3D4D, UINT64_C(0xE1E2E3E4E5E6E7E8),
     {11, 22, 33, 44, 55, 66}, {0xF1F2F3F4, 0xF5F6F7F8}, UINT64_C(0xD1D2D3D4D5D6D7D8), NULL, NULL, NULL,
-    {NULL, NULL}, {NULL, NULL}, {NULL, NULL}};
+    {NULL, NULL}, {NULL, NULL}, {NULL, NULL}, NULL, NULL};
 
 struct outcome {
     uint32_t answer;
@@ -323,6 +324,74 @@ uint32_t pair_run_two(struct lent program, struct lent wiring, const struct lent
         after.picture_of[at] = held[GALHOVEIA][slot_of[at][2]];
     }
     return outcome[GALHOVEIA].answer;
+}
+
+static struct lent as_bytes(struct lent_tables tables)
+{
+    return (struct lent){(const uint8_t *)tables.numbers, sizeof *tables.numbers * tables.length};
+}
+
+static uint16_t *tables_held(enum side side)
+{
+    return (uint16_t *)(void *)held[side][SLOT_TABLES];
+}
+
+uint32_t pair_xref_build(struct lent program, struct lent_tables tables)
+{
+    static __typeof__(galhoveia_xref_build) *const build[SIDES] = {galhoveia_xref_build, second_xref_build};
+    struct outcome outcome[SIDES] = {{0, untouched}, {0, untouched}};
+    uint32_t answer;
+
+    give(SLOT_PROGRAM, program);
+    give(SLOT_TABLES, as_bytes(tables));
+    for (int side = 0; side < SIDES; side++)
+        outcome[side].answer = build[side](held[side][SLOT_PROGRAM], program.length, tables_held(side), tables.length,
+                                           &outcome[side].out.value);
+    answer = conclude(XREF_BUILD, outcome);
+    compare_area(XREF_BUILD, "program", SLOT_PROGRAM, program, false);
+    compare_area(XREF_BUILD, "tables", SLOT_TABLES, as_bytes(tables), may_write(XREF_BUILD, answer));
+    after.tables = tables_held(GALHOVEIA);
+    return answer;
+}
+
+uint32_t pair_xref_list(struct lent program, struct lent_tables tables, uint32_t cell, struct lent output)
+{
+    static __typeof__(galhoveia_xref_list) *const list[SIDES] = {galhoveia_xref_list, second_xref_list};
+    struct outcome outcome[SIDES] = {{0, untouched}, {0, untouched}};
+    uint32_t answer;
+
+    give(SLOT_PROGRAM, program);
+    give(SLOT_TABLES, as_bytes(tables));
+    give(SLOT_OUTPUT, output);
+    for (int side = 0; side < SIDES; side++)
+        outcome[side].answer = list[side](held[side][SLOT_PROGRAM], program.length, tables_held(side), tables.length,
+                                          cell, held[side][SLOT_OUTPUT], output.length, &outcome[side].out.count,
+                                          &outcome[side].out.value);
+    answer = conclude(XREF_LIST, outcome);
+    compare_area(XREF_LIST, "program", SLOT_PROGRAM, program, false);
+    compare_area(XREF_LIST, "tables", SLOT_TABLES, as_bytes(tables), false);
+    compare_area(XREF_LIST, "addresses", SLOT_OUTPUT, output, may_write(XREF_LIST, answer));
+    after.output = held[GALHOVEIA][SLOT_OUTPUT];
+    return answer;
+}
+
+uint32_t pair_xref_replace(struct lent program, struct lent_tables tables, uint32_t address, uint16_t word)
+{
+    static __typeof__(galhoveia_xref_replace) *const replace[SIDES] = {galhoveia_xref_replace, second_xref_replace};
+    struct outcome outcome[SIDES] = {{0, untouched}, {0, untouched}};
+    uint32_t answer;
+
+    give(SLOT_PROGRAM, program);
+    give(SLOT_TABLES, as_bytes(tables));
+    for (int side = 0; side < SIDES; side++)
+        outcome[side].answer = replace[side](held[side][SLOT_PROGRAM], program.length, tables_held(side),
+                                             tables.length, address, word, &outcome[side].out.value);
+    answer = conclude(XREF_REPLACE, outcome);
+    compare_area(XREF_REPLACE, "program", SLOT_PROGRAM, program, may_write(XREF_REPLACE, answer));
+    compare_area(XREF_REPLACE, "tables", SLOT_TABLES, as_bytes(tables), may_write(XREF_REPLACE, answer));
+    after.program = held[GALHOVEIA][SLOT_PROGRAM];
+    after.tables = tables_held(GALHOVEIA);
+    return answer;
 }
 
 void expect(const char *what, uint32_t answer, uint32_t number, uint64_t value)

@@ -11,6 +11,9 @@ enum { PROGRAM_BYTES = 8192, MEMORY_BYTES = 1024, RECORD_BYTES = 45, WORDS = 409
 enum { ELEMENTS_MOST = 240, WIRING_MOST = 3 * ELEMENTS_MOST };
 enum { LINE_BYTES_MOST = 21, LISTING_BYTES_MOST = WORDS * LINE_BYTES_MOST };
 
+/* A cross-reference: a number for each cell, then one for each address (02, P7). */
+enum { XREF_NEXT = MEMORY_BYTES, XREF_NUMBERS = XREF_NEXT + WORDS, XREF_NONE = WORDS };
+
 /* Where each field of the record begins (01, What is lent; 02, P1 and P2); channel 2 stands behind channel 1. */
 enum {
     R_PC = 0, R_AC = 2, R_CY = 3, R_MODE = 4, R_STACK = 5, R_T0_PRESCALER = 21, R_T0_COUNTER = 23, R_T0_LOAD = 24,
@@ -96,10 +99,16 @@ struct lent {
 
 #define LENT(area) ((struct lent){(area), sizeof(area)})
 
-enum call {
-    STEP, RUN, LIST, LEVEL, FRESH, PICTURE, BOOK_READ, BOOK_WRITE, LISTING_WRITE, LISTING_READ, RUN_TWO, CALLS
+struct lent_tables {
+    const uint16_t *numbers;
+    size_t length; /* counted in numbers */
 };
-enum { REFUSALS = 29, CARS = 2 };
+
+enum call {
+    STEP, RUN, LIST, LEVEL, FRESH, PICTURE, BOOK_READ, BOOK_WRITE, LISTING_WRITE, LISTING_READ, RUN_TWO, XREF_BUILD,
+    XREF_LIST, XREF_REPLACE, CALLS
+};
+enum { REFUSALS = 30, CARS = 2 };
 
 extern const char *const call_name[CALLS];
 extern unsigned long reached[CALLS][REFUSALS];
@@ -116,6 +125,8 @@ extern struct after {
     uint64_t entries;
     const uint8_t *memory, *record, *output;
     const uint8_t *memory_of[CARS], *record_of[CARS], *picture_of[CARS];
+    const uint8_t *program;
+    const uint16_t *tables;
 } after;
 
 /* Each lends copies of the bytes to both emulators, ending right before a page that cannot be touched, and compares
@@ -131,6 +142,10 @@ uint32_t pair_book_read(struct lent book);
 uint32_t pair_book_write(struct lent program, struct lent wiring, struct lent level, struct lent output);
 uint32_t pair_listing_write(struct lent program, struct lent output);
 uint32_t pair_listing_read(struct lent text, struct lent output);
+
+uint32_t pair_xref_build(struct lent program, struct lent_tables tables);
+uint32_t pair_xref_list(struct lent program, struct lent_tables tables, uint32_t cell, struct lent output);
+uint32_t pair_xref_replace(struct lent program, struct lent_tables tables, uint32_t address, uint16_t word);
 
 struct lent_car {
     struct lent memory, record, picture;
