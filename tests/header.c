@@ -1,5 +1,5 @@
-/* The header as a C program meets it: included twice, its constants in their places, its example and a run of two cars
-   at work. */
+/* The header as a C program meets it: included twice, its constants in their places, its example, a run of two cars
+   and a cross-reference at work. */
 #include "../desk/galhoveia.h"
 #include "../desk/galhoveia.h"
 
@@ -19,6 +19,8 @@ _Static_assert(GALHOVEIA_RECORD_FROZEN_MARK + 1 == GALHOVEIA_RECORD_BYTES, "the 
 _Static_assert(GALHOVEIA_BOOK_BYTES_MOST == 16 + GALHOVEIA_PROGRAM_BYTES
                + GALHOVEIA_ELEMENTS_MOST * GALHOVEIA_ELEMENT_BYTES + GALHOVEIA_LEVEL_BYTES, "the longest book");
 _Static_assert(GALHOVEIA_LISTING_BYTES_MOST == GALHOVEIA_WORDS * GALHOVEIA_LINE_BYTES_MOST, "the longest listing");
+_Static_assert(GALHOVEIA_XREF_NUMBERS == GALHOVEIA_MEMORY_BYTES + GALHOVEIA_WORDS, "a number for each cell and word");
+_Static_assert(GALHOVEIA_XREF_NONE == GALHOVEIA_WORDS, "no address is none");
 
 static bool example(void)
 {
@@ -72,11 +74,41 @@ static bool two_cars(void)
            && record[1][GALHOVEIA_RECORD_PC + 1] == 2 && picture[0][0] == 0 && picture[1][0] == 0;
 }
 
+/* A program of ADC $000 gets STA $020 at $123 and STA $0F at $FFF, then loses the first. */
+static bool cross_reference(void)
+{
+    static uint8_t program[GALHOVEIA_PROGRAM_BYTES], addresses[4];
+    static uint16_t tables[GALHOVEIA_XREF_NUMBERS];
+    const size_t length = GALHOVEIA_XREF_NUMBERS;
+    uint64_t value, joined = 0, left = 0;
+    uint32_t refusal = galhoveia_xref_build(program, sizeof program, tables, length, &value);
+
+    if (refusal == GALHOVEIA_DONE)
+        refusal = galhoveia_xref_replace(program, sizeof program, tables, length, 0x123, 0x3C20, &value);
+    if (refusal == GALHOVEIA_DONE)
+        refusal = galhoveia_xref_replace(program, sizeof program, tables, length, 0xFFF, 0x3C0F, &value);
+    if (refusal == GALHOVEIA_DONE)
+        refusal = galhoveia_xref_list(program, sizeof program, tables, length, 0x020, addresses, sizeof addresses,
+                                      &joined, &value);
+    if (refusal == GALHOVEIA_DONE)
+        refusal = galhoveia_xref_replace(program, sizeof program, tables, length, 0x123, 0, &value);
+    if (refusal == GALHOVEIA_DONE)
+        refusal = galhoveia_xref_list(program, sizeof program, tables, length, 0x020, addresses, sizeof addresses,
+                                      &left, &value);
+    if (refusal == GALHOVEIA_DONE)
+        printf("%llu writers, then %llu\n", (unsigned long long)joined / 2, (unsigned long long)left / 2);
+    else
+        printf("a cross-reference refused by %lu with %llu\n", (unsigned long)refusal, (unsigned long long)value);
+    return refusal == GALHOVEIA_DONE && joined == 4 && left == 2 && addresses[0] == 0x0F && addresses[1] == 0xFF
+           && tables[0x020] == GALHOVEIA_XREF_NONE && tables[GALHOVEIA_XREF_POINTED] == 0xFFF;
+}
+
 int main(void)
 {
     int passed = example();
 
     passed += two_cars();
-    printf("%d passed, %d failed\n", passed, 2 - passed);
-    return passed == 2 ? 0 : 1;
+    passed += cross_reference();
+    printf("%d passed, %d failed\n", passed, 3 - passed);
+    return passed == 3 ? 0 : 1;
 }

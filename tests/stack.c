@@ -11,8 +11,11 @@
 #include <string.h>
 #include <ucontext.h>
 
-/* An earlier library may not have this call; it is null then, and not made. */
+/* An earlier library may not have these calls; they are null then, and not made. */
 #pragma weak galhoveia_run_two
+#pragma weak galhoveia_xref_build
+#pragma weak galhoveia_xref_list
+#pragma weak galhoveia_xref_replace
 
 enum { TURNS = 3000, EVENTS = 500, DAMAGED_ONE_IN = 16 };
 
@@ -22,10 +25,12 @@ static uint8_t program[PROGRAM_BYTES], script[EVENTS], wiring[WIRING_MOST], pane
 static uint8_t addresses[PROGRAM_BYTES], picture[ELEMENTS_MOST], words[PROGRAM_BYTES];
 static uint8_t book[GALHOVEIA_BOOK_BYTES_MOST], text[LISTING_BYTES_MOST];
 static uint8_t entries[2 * EVENTS + 1], pictures[CARS][ELEMENTS_MOST];
+static uint16_t tables[XREF_NUMBERS], new_word;
 static struct machine machine, cars[CARS];
 static size_t program_length, memory_length, record_length, wiring_length, entries_length, room;
+static size_t built_length, tables_length;
 static uint8_t event;
-static uint32_t options, cell, reason, reasons[CARS];
+static uint32_t options, cell, address, reason, reasons[CARS];
 static int32_t level;
 static uint64_t book_length, text_length, part[6], count, events, value;
 
@@ -52,6 +57,15 @@ static void draw_cars(enum mix mix)
         entries[any(2 * EVENTS)] = (uint8_t)any(256);
     entries_length = 2 * EVENTS + damaged();
     room = ELEMENTS_MOST - (damaged() ? any(ELEMENTS_MOST) : 0);
+}
+
+/* Where building is refused, the tables are still those of the program before. */
+static void draw_tables(void)
+{
+    built_length = XREF_NUMBERS - damaged();
+    tables_length = XREF_NUMBERS - damaged();
+    address = damaged() ? WORDS : any(WORDS);
+    new_word = (uint16_t)any(0x10000);
 }
 
 static void draw(enum mix mix)
@@ -122,6 +136,21 @@ static void list(void)
     CHOSEN(list)(program, program_length, cell, addresses, sizeof addresses, &count, &value);
 }
 
+static void xref_build(void)
+{
+    CHOSEN(xref_build)(program, program_length, tables, built_length, &value);
+}
+
+static void xref_list(void)
+{
+    CHOSEN(xref_list)(program, program_length, tables, tables_length, cell, addresses, sizeof addresses, &count, &value);
+}
+
+static void xref_replace(void)
+{
+    CHOSEN(xref_replace)(program, program_length, tables, tables_length, address, new_word, &value);
+}
+
 static void level_read(void)
 {
     CHOSEN(level)(machine.memory, memory_length, panel_level, sizeof panel_level, &level, &value);
@@ -164,7 +193,8 @@ static struct {
 } calls[] = {
     CALL(step, step), CALL(run, run), CALL(list, list), CALL(level, level_read), CALL(picture, picture_drawn),
     CALL(book_write, book_write), CALL(book_read, book_read), CALL(listing_write, listing_write),
-    CALL(listing_read, listing_read), CALL(fresh, fresh), CALL(run_two, run_two),
+    CALL(listing_read, listing_read), CALL(fresh, fresh), CALL(run_two, run_two), CALL(xref_build, xref_build),
+    CALL(xref_list, xref_list), CALL(xref_replace, xref_replace),
 };
 
 enum { CALLED = sizeof calls / sizeof calls[0] };
@@ -222,6 +252,7 @@ int main(void)
     for (unsigned turn = 0; turn < TURNS; turn++) {
         draw((enum mix)(turn % MIXES));
         draw_cars((enum mix)(turn % MIXES));
+        draw_tables();
         for (unsigned at = 0; at < CALLED; at++) {
             size_t above, bytes;
 
