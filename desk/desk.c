@@ -264,30 +264,20 @@ static struct bytes read_body(const char *path, struct bytes (*from_text)(const 
 static enum status work_book_make(const struct command *command, int count, char **words)
 {
     const char *others[4];
-    bool force = false;
+    bool force = false, done;
     const struct option known[] = {{"--force", NULL, &force}, {NULL, NULL, NULL}};
-    uint8_t book[GALHOVEIA_BOOK_BYTES_MOST];
     struct bytes program, wiring, level;
-    uint64_t length = 0, value = 0;
-    uint32_t refusal;
 
     take_words(command, count, words, known, others, 4);
     may_write(others[0], force);
     program = read_body(others[1], program_from_text);
     wiring = read_body(others[2], wiring_from_text);
     level = read_body(others[3], level_from_text);
-    refusal = galhoveia_book_write(program.at, program.length, wiring.at, wiring.length, level.at, level.length, book,
-                                   sizeof book, &length, &value);
+    done = write_book(others[0], program, wiring, level, force);
     free(program.at);
     free(wiring.at);
     free(level.at);
-    if (refusal != GALHOVEIA_DONE) {
-        say_refusal(others[0], refusal, value);
-        return REFUSED;
-    }
-    write_file(others[0], book, (size_t)length, force);
-    printf("%s: a book of %llu bytes\n", others[0], (unsigned long long)length);
-    return DONE;
+    return done ? DONE : REFUSED;
 }
 
 /* ---- The demonstration ---- */

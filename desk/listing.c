@@ -3,14 +3,11 @@
 
 #include "files.h"
 
-#include <stdlib.h>
 #include <string.h>
 
 _Noreturn void bad_listing(const char *what)
 {
-    say_fault("the library's listing: %s", what);
-    ask_report();
-    exit(FAULT);
+    end_in_fault("the library's listing: %s", what);
 }
 
 size_t write_listing(const uint8_t *program, uint8_t text[GALHOVEIA_LISTING_BYTES_MOST])

@@ -70,6 +70,22 @@ bool read_book(const char *path, struct book *book)
     return true;
 }
 
+bool write_book(const char *path, struct bytes program, struct bytes wiring, struct bytes level, bool force)
+{
+    uint8_t book[GALHOVEIA_BOOK_BYTES_MOST];
+    uint64_t length = 0, value = 0;
+    uint32_t refusal = galhoveia_book_write(program.at, program.length, wiring.at, wiring.length, level.at,
+                                            level.length, book, sizeof book, &length, &value);
+
+    if (refusal != GALHOVEIA_DONE) {
+        say_refusal(path, refusal, value);
+        return false;
+    }
+    write_file(path, book, (size_t)length, force);
+    printf("%s: a book of %llu bytes\n", path, (unsigned long long)length);
+    return true;
+}
+
 bool make_fresh(struct state *state, uint32_t options, const char *what)
 {
     uint64_t value = 0;
@@ -94,6 +110,14 @@ unsigned level_cell(const struct book *book, enum digit digit)
 }
 
 const char *const digit_meaning[DIGITS] = {" (high digit of the level)", " (low digit of the level)"};
+
+const char *cell_meaning(const struct book *book, uint32_t cell)
+{
+    for (enum digit digit = HIGH; digit < DIGITS; digit++)
+        if (level_cell(book, digit) == cell)
+            return digit_meaning[digit];
+    return "";
+}
 
 bool show_level(FILE *to, const struct book *book, const struct state *state, const char *state_name)
 {
@@ -172,10 +196,15 @@ bool ask_writers(const struct book *book, uint32_t cell, struct writers *writers
         say_refusal("the list of writers", refusal, value);
         return false;
     }
-    writers->count = (size_t)(count / 2);
+    take_writers(writers, addresses, count);
+    return true;
+}
+
+void take_writers(struct writers *writers, const uint8_t *addresses, uint64_t bytes)
+{
+    writers->count = (size_t)(bytes / 2);
     for (size_t at = 0; at < writers->count; at++)
         writers->address[at] = (uint16_t)two(addresses + 2 * at);
-    return true;
 }
 
 void show_instruction(const struct book *book, unsigned address)
@@ -192,18 +221,32 @@ void show_writer(const struct book *book, unsigned address)
            strncmp(first_operand(line), "00F", 3) == 0 ? "  ; wherever the pointer $012, $011, $010 stands" : "");
 }
 
+void show_head(uint32_t cell, const char *meaning, size_t count)
+{
+    printf("cell $%03lX%s: ", (unsigned long)cell, meaning);
+    if (count == 0)
+        printf("no instruction can change it");
+    else
+        printf("%zu instruction%s can change it", count, count == 1 ? "" : "s");
+}
+
+void show_list(const struct book *book, const struct writers *writers)
+{
+    for (size_t at = 0; at < writers->count; at++) {
+        printf("  ");
+        show_writer(book, writers->address[at]);
+    }
+}
+
 bool show_writers(const struct book *book, uint32_t cell, const char *meaning)
 {
     struct writers writers;
 
     if (!ask_writers(book, cell, &writers))
         return false;
-    printf("cell $%03lX%s: %zu instruction%s can change it\n", (unsigned long)cell, meaning, writers.count,
-           writers.count == 1 ? "" : "s");
-    for (size_t at = 0; at < writers.count; at++) {
-        printf("  ");
-        show_writer(book, writers.address[at]);
-    }
+    show_head(cell, meaning, writers.count);
+    printf("\n");
+    show_list(book, &writers);
     return true;
 }
 

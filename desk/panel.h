@@ -33,11 +33,17 @@ struct book {
 bool read_book(const char *path, struct book *book);
 bool make_fresh(struct state *state, uint32_t options, const char *what);
 
+/* Puts three bodies together into a book and says so. Answers whether the library did it; a refusal is said. */
+bool write_book(const char *path, struct bytes program, struct bytes wiring, struct bytes level, bool force);
+
 /* The level's digits, the cell of each, and what is said behind that cell's number. */
 enum digit { HIGH, LOW, DIGITS };
 
 unsigned level_cell(const struct book *book, enum digit digit);
 extern const char *const digit_meaning[DIGITS];
+
+/* What is said behind a cell's number, nothing where it has no digit of the level. */
+const char *cell_meaning(const struct book *book, uint32_t cell);
 
 /* The addresses of the instructions that can change a cell, ascending; a refusal is said. */
 struct writers {
@@ -46,6 +52,9 @@ struct writers {
 };
 
 bool ask_writers(const struct book *book, uint32_t cell, struct writers *writers);
+
+/* The same from so many bytes that the library wrote, two for each address. */
+void take_writers(struct writers *writers, const uint8_t *addresses, uint64_t bytes);
 
 /* How a picture is drawn. */
 struct look {
@@ -73,6 +82,11 @@ bool show_level_writers(const struct book *book);
    $00F, so that the pointer tells which cell it changes. */
 void show_instruction(const struct book *book, unsigned address);
 void show_writer(const struct book *book, unsigned address);
+
+/* How a list of writers is shown: the beginning of a line that tells how many can change a cell, and then a line for
+   each. */
+void show_head(uint32_t cell, const char *meaning, size_t count);
+void show_list(const struct book *book, const struct writers *writers);
 
 void show_book(const char *path, const struct book *book);
 void show_registers(const struct state *state);

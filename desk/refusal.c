@@ -107,3 +107,14 @@ bool ask_report(void)
 {
     return say_fault("this must never be; please keep book, state and script, and report it");
 }
+
+_Noreturn void end_in_fault(const char *format, ...)
+{
+    va_list arguments;
+
+    va_start(arguments, format);
+    say("FAULT: ", format, arguments);
+    va_end(arguments);
+    ask_report();
+    exit(FAULT);
+}

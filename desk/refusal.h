@@ -20,4 +20,7 @@ bool say_fault(const char *format, ...) __attribute__((format(printf, 1, 2)));
 /* Asks for a report, after the faults were said. Answers false too. */
 bool ask_report(void);
 
+/* Says a fault after which the command cannot go on, asks for a report and ends the command with FAULT. */
+_Noreturn void end_in_fault(const char *format, ...) __attribute__((format(printf, 1, 2)));
+
 #endif

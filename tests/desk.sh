@@ -354,7 +354,7 @@ ends 0 writers --level "$book"
 ends 0 writers "$book" '$304'
 says out 'STA 304'
 ends 0 writers stop.book 36D
-says out 'cell $36D: 0 instructions can change it'
+says out 'cell $36D: no instruction can change it'
 ends 0 writers stop.book 20
 says out 'cell $020: 1 instruction can change it'
 for cell in 000 01F 170 2FF 349 357 36E 370 3FF 400 FFFFFFFF; do
