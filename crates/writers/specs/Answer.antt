@@ -12,7 +12,7 @@ use Rattle.writers.specs.declared.Listed.the-variants.{Count, Refused}
 use Rattle.writers.specs.List.{writersOf}
 use Rattle.refusal.specs.Told.{Counted, counted, doneTold, refusedTold}
 
--- 7, with the room needed; else the list in the room: in entries here, in bytes at the boundary to C
+-- 7, with the room needed; else the list in the room: in entries here, in bytes where addresses are written as bytes
 unfoldable pub filledOf : List ℕ → List ℕ → Outcome Listed
 filledOf l o =
     pick (ltb (length o) (length l)) (outcome (Refused (Room (length l))) o) (outcome (Count (length l)) (over l o))

@@ -30,7 +30,7 @@ fn names_cell(x: u16, cell: u16) -> bool
 }
 
 // The address that a word names.
-fn named(word: u16) -> u16
+pub fn named(word: u16) -> u16
     ensures { λ r. ⌜ r ≡ namedOf word ⌝ }
 {
     if word < 0x4000 {
@@ -66,7 +66,7 @@ fn row(code: u16) -> u16
 }
 
 // Whether what a word writes to the cell that it names can be another value.
-fn changes(word: u16) -> bool
+pub fn changes(word: u16) -> bool
     ensures { λ r. ⌜ r ≡ mayOf word ⌝ }
 {
     let bits = row(word / 2048);
@@ -83,8 +83,8 @@ pub fn writes(word: u16, cell: u16) -> bool
     false
 }
 
-// Any number may be asked.
-fn askable(cell: u32) -> bool
+// Whether a cell can be asked about, whatever number it is.
+pub fn askable(cell: u32) -> bool
     ensures { λ r. ⌜ r ≡ askableOf cell ⌝ }
 {
     if cell < 0x10000 {
