@@ -1,0 +1,4 @@
+pub mod Chain
+pub mod Answer
+pub mod Replace
+pub mod Entries
