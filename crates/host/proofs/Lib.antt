@@ -7,3 +7,4 @@ pub mod CarsLeft
 pub mod Back
 pub mod Paper
 pub mod PaperBack
+pub mod Tables

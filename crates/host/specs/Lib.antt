@@ -8,3 +8,4 @@ pub mod Picture
 pub mod Books
 pub mod Listings
 pub mod RunTwo
+pub mod References

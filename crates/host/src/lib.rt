@@ -5,6 +5,7 @@ pub mod levels;
 pub mod list;
 pub mod listings;
 pub mod pictures;
+pub mod references;
 pub mod run;
 pub mod step;
 mod told;
