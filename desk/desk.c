@@ -7,6 +7,7 @@
 #include "two.h"
 #include "watch.h"
 #include "wave.h"
+#include "xref.h"
 
 #include <stdio.h>
 #include <stdlib.h>
@@ -447,7 +448,14 @@ static const struct command commands[] = {
      "--raw writes one byte, 0 or 1, for each element instead.\n", NULL, work_picture},
     {"writers", "writers BOOK CELL | writers BOOK --level", "lists every instruction that can change a cell",
      "CELL is in hex: a data, display or scan cell. --level asks for both digits of the level.\n"
-     "Each instruction is shown by its line in the program's listing (desk listing).\n", NULL, work_writers},
+     "Each instruction is shown by its line in the program's listing (desk listing). desk xref shows every cell's.\n",
+     NULL, work_writers},
+    {"xref", "xref BOOK [--cell HEX | --all]", "shows the writers of every cell: the program's cross-reference",
+     "The library keeps them in tables: under each data, display and scan cell the instructions that name it and can\n"
+     "change it, and once for all those that write through $00F. The writers of a cell are its own joined with these.\n"
+     "Without an option it is told how many there are; --all shows each by its line in the program's listing (desk\n"
+     "listing). Cells without writers of their own are left out, but for the level's digits. --cell asks the tables for\n"
+     "one cell and shows what desk writers shows of it.\n", NULL, work_xref},
     {"listing", "listing BOOK [--out FILE [--force]]", "writes a book's program as text",
      "The listing goes to standard output, or into FILE. desk program reads it back.\n", listing_texts, work_listing},
     {"program", "program LISTING OUT [--force]", "reads a program back from its listing",
@@ -470,7 +478,8 @@ static void print_overview(FILE *to)
     fprintf(to, "\ndesk COMMAND --help tells more of one. No file is written over unless --force is given.\n"
                 "Exit status: 0 done; 1 refused by the library, which is said with its number and value; 2 wrong use,\n"
                 "or a file that cannot be read, is in the way, or is not what it should be; 3 a fault of the library,\n"
-                "which a watched run, a run that is heard, the demo and whatever takes a listing's lines look for.\n");
+                "which a watched run, a run that is heard, the demo and whatever takes a listing's lines or a\n"
+                "cross-reference look for.\n");
 }
 
 static void print_help(const struct command *command)

@@ -68,6 +68,9 @@ void say_refusal(const char *what, uint32_t number, uint64_t value)
     case GALHOVEIA_CUT_ENTRY:
         fprintf(stderr, "the script ends behind the car at place %llu, counted from 0, with no event for it", with);
         break;
+    case GALHOVEIA_TABLES:
+        fprintf(stderr, "the tables are not the cross-reference of the program lent with them");
+        break;
     default:
         fprintf(stderr, "a reason this command does not know");
         break;

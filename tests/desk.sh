@@ -1,10 +1,12 @@
 #!/bin/sh
 # Tests of the desk command: desk.sh PATH-OF-DESK PATH-OF-FORGETFUL-DESK (forgetful.c) PATH-OF-DEAF-DESK (deaf.c)
-# PATH-OF-TORN-DESK (torn.c), from the repository's folder. Works in a folder of its own.
+# PATH-OF-TORN-DESK (torn.c) PATH-OF-LOOPED-DESK (looped.c), from the repository's folder.
+# Works in a folder of its own.
 desk=$(realpath "$1") || exit 2
 forgetful=$(realpath "$2") || exit 2
 deaf=$(realpath "$3") || exit 2
 torn=$(realpath "$4") || exit 2
+looped=$(realpath "$5") || exit 2
 examples=$(realpath examples) || exit 2
 inspector=$(realpath docs/INSPECTOR.md) || exit 2
 work=$(mktemp -d) || exit 2
@@ -72,7 +74,7 @@ ends 0 --help
 says out 'desk writers BOOK CELL'
 quiet
 ends 0 book --help
-for command in demo fresh run run-two level picture writers listing program 'book check' 'book make'; do
+for command in demo fresh run run-two level picture writers xref listing program 'book check' 'book make'; do
     # shellcheck disable=SC2086
     ends 0 $command --help
     says out "usage: desk $command"
@@ -90,6 +92,9 @@ for command in listing program; do
     says out '  013 3CA0 STA 0A0 '
     says out '  029 CB80 DATA '
 done
+ends 0 xref --help
+says out 'usage: desk xref BOOK [--cell HEX | --all]'
+says out 'The writers of a cell are its own joined with these.'
 ends 0 book make --help
 says out 'EQU'
 says out '$300.2'
@@ -101,7 +106,7 @@ says err 'no such command: nonsense'
 ends 2 book
 ends 2 book burn
 says err 'no such command: book burn'
-for command in fresh run run-two level picture writers listing program 'book check' 'book make'; do
+for command in fresh run run-two level picture writers xref listing program 'book check' 'book make'; do
     # shellcheck disable=SC2086
     ends 2 $command
     says err "usage: desk $command"
@@ -1527,8 +1532,8 @@ case $(ls -l masked.lst) in -rw-r-----*) ok ;; *) wrong "a listing's mode does n
 # A listing that lacks a line is found out.
 proved=$desk
 desk=$torn
-for command in "listing $book" "writers $book --level" "book check $book" \
-    'book make never.book stop.asm small.wiring small.level'; do
+for command in "listing $book" "writers $book --level" "xref $book" \
+    "book check $book" 'book make never.book stop.asm small.wiring small.level'; do
     # shellcheck disable=SC2086
     ends 3 $command
     says err "desk: FAULT: the library's listing: a line is missing, too short or too long"
@@ -1536,6 +1541,239 @@ for command in "listing $book" "writers $book --level" "book check $book" \
     unbegun
 done
 absent never.book
+desk=$proved
+
+echo "desk: a cross-reference"
+# The cells that have a list of writers: data, display, scan.
+cells=$(awk 'BEGIN {
+    for (cell = 32; cell <= 367; cell++) printf "%03X ", cell
+    for (cell = 768; cell <= 840; cell++) printf "%03X ", cell
+    for (cell = 856; cell <= 877; cell++) printf "%03X ", cell }')
+
+cat >wanted <<'END'
+through $00F, writers of every data, display and scan cell: 2
+  04A 3C0F STA 00F  ; wherever the pointer $012, $011, $010 stands
+  04D 3C0F STA 00F  ; wherever the pointer $012, $011, $010 stands
+data cells $020-$16F: 8 of 336 have writers of their own, 25 in all
+cell $020 (high digit of the level): 4 instructions can change it, 2 of its own and 2 through $00F
+  015 7820 LDI 020 0
+  027 3C20 STA 020
+cell $021 (low digit of the level): 4 instructions can change it, 2 of its own and 2 through $00F
+  016 7921 LDI 021 2
+  02B 3C21 STA 021
+cell $022: 15 instructions can change it, 13 of its own and 2 through $00F
+  019 7F22 LDI 022 E
+  01B 7B22 LDI 022 6
+  025 3C22 STA 022
+  026 73A2 ANDIM 022 7
+  029 3C22 STA 022
+  02A 73A2 ANDIM 022 7
+  038 7822 LDI 022 0
+  03F 7822 LDI 022 0
+  041 78A2 LDI 022 1
+  043 7922 LDI 022 2
+  046 3C22 STA 022
+  05E 7EA2 LDI 022 D
+  061 7822 LDI 022 0
+cell $023: 3 instructions can change it, 1 of its own and 2 through $00F
+  021 3C23 STA 023
+cell $024: 3 instructions can change it, 1 of its own and 2 through $00F
+  023 3C24 STA 024
+cell $025: 4 instructions can change it, 2 of its own and 2 through $00F
+  064 7825 LDI 025 0
+  067 58A5 SBIM 025 1
+cell $026: 4 instructions can change it, 2 of its own and 2 through $00F
+  065 7826 LDI 026 0
+  069 58A6 SBIM 026 1
+cell $027: 4 instructions can change it, 2 of its own and 2 through $00F
+  066 7927 LDI 027 2
+  06B 58A7 SBIM 027 1
+display cells $300-$348: 1 of 73 has writers of its own, 1 in all
+cell $304: 3 instructions can change it, 1 of its own and 2 through $00F
+  044 3F04 STA 304
+scan cells $358-$36D: none of 22 has writers of its own
+END
+ends 0 xref "$book" --all
+same out wanted
+quiet
+are_lines
+ends 0 xref --all "$book"
+same out wanted
+# Without an option the same, but for the instructions.
+ends 0 xref "$book"
+grep -v '^  ' wanted >heads
+same out heads
+quiet
+# The paper's twelfth number: adding 0 and keeping all bits change nothing.
+cat >wanted <<'END'
+through $00F, writers of every data, display and scan cell: 1
+  012 3C0F STA 00F  ; wherever the pointer $012, $011, $010 stands
+data cells $020-$16F: 2 of 336 have writers of their own, 2 in all
+cell $020 (high digit of the level): 2 instructions can change it, 1 of its own and 1 through $00F
+  011 48A0 ADIM 020 1
+cell $021 (low digit of the level): 1 instruction can change it, 0 of its own and 1 through $00F
+cell $0A0: 2 instructions can change it, 1 of its own and 1 through $00F
+  013 3CA0 STA 0A0
+display cells $300-$348: none of 73 has writers of its own
+scan cells $358-$36D: none of 22 has writers of its own
+END
+ends 0 xref twelve.book --all
+same out wanted
+cat >wanted <<'END'
+cell $020 (high digit of the level): 2 instructions can change it
+  011 48A0 ADIM 020 1
+  012 3C0F STA 00F  ; wherever the pointer $012, $011, $010 stands
+END
+ends 0 xref twelve.book --cell 020
+same out wanted
+quiet
+# The first and the last cell of each kind, between neighbours that have no list; nothing through $00F.
+printf ' STA $%s\n' 01F 020 16F 170 2FF 300 348 349 357 358 36D 36E 370 >edges.asm
+printf 'high $358 low $348 ground 2' >edges.level
+ends 0 book make edges.book edges.asm small.wiring edges.level
+cat >wanted <<'END'
+through $00F, writers of every data, display and scan cell: none
+data cells $020-$16F: 2 of 336 have writers of their own, 2 in all
+cell $020: 1 instruction can change it, 1 of its own and 0 through $00F
+  001 3C20 STA 020
+cell $16F: 1 instruction can change it, 1 of its own and 0 through $00F
+  002 3D6F STA 16F
+display cells $300-$348: 2 of 73 have writers of their own, 2 in all
+cell $300: 1 instruction can change it, 1 of its own and 0 through $00F
+  005 3F00 STA 300
+cell $348 (low digit of the level): 1 instruction can change it, 1 of its own and 0 through $00F
+  006 3F48 STA 348
+scan cells $358-$36D: 2 of 22 have writers of their own, 2 in all
+cell $358 (high digit of the level): 1 instruction can change it, 1 of its own and 0 through $00F
+  009 3F58 STA 358
+cell $36D: 1 instruction can change it, 1 of its own and 0 through $00F
+  00A 3F6D STA 36D
+END
+ends 0 xref edges.book --all
+same out wanted
+# No writers at all: the level's digits are told all the same.
+printf ' NOP\n' >none.asm
+ends 0 book make none.book none.asm small.wiring small.level
+cat >wanted <<'END'
+through $00F, writers of every data, display and scan cell: none
+data cells $020-$16F: none of 336 has writers of its own
+cell $020 (high digit of the level): no instruction can change it
+cell $021 (low digit of the level): no instruction can change it
+display cells $300-$348: none of 73 has writers of its own
+scan cells $358-$36D: none of 22 has writers of its own
+END
+ends 0 xref none.book --all
+same out wanted
+ends 0 xref none.book
+same out wanted
+echo 'cell $36D: no instruction can change it' >wanted
+ends 0 xref none.book --cell 36D
+same out wanted
+
+# joined: what desk xref --all has shown, as a list of writers for each cell: its lines, with the cell before each.
+joined() {
+    awk -v cells="$cells" '
+        /^through / { group = "through" }
+        /^cell / { group = substr($2, 2, 3) }
+        /^  / { lines[group] = lines[group] substr($0, 3) "\n" }
+        END {
+            count = split(cells, cell, " ")
+            for (at = 1; at <= count; at++) {
+                last = split(lines["through"] lines[cell[at]], line, "\n")
+                for (one = 1; one < last; one++) print cell[at], line[one]
+            }
+        }' | sort
+}
+
+# answers BOOK: cell after cell, asked of the tables and shown with all, the writers are those of desk writers.
+answers() {
+    for cell in $cells; do
+        "$desk" writers "$1" "$cell" >&3
+        "$desk" xref "$1" --cell "$cell" >&4
+    done 3>listed 4>asked 2>err
+    sed 's/ ([a-z]* digit of the level)//' asked >got
+    same got listed
+    awk '/^cell / { cell = substr($2, 2, 3) } /^  / { print cell, substr($0, 3) }' listed | sort >wanted
+    ends 0 xref "$1" --all
+    cp out all
+    joined <out >got
+    same got wanted
+    ends 0 xref "$1"
+    grep -v '^  ' all >heads
+    same out heads
+}
+answers "$book"
+# Words of all kinds, some of them with $00F, at every fourth address.
+awk 'BEGIN {
+    for (at = 0; at < 1024; at++) {
+        word = (word * 25173 + 13849) % 65536
+        printf " ORG %d\n DW %d\n", 4 * at + 3, at % 16 == 5 ? word - word % 128 + 15 : word
+    } }' >kinds.asm
+ends 0 book make kinds.book kinds.asm small.wiring small.level
+answers kinds.book
+# As many as are told are shown.
+awk '
+    /^[cdst]/ { if (seen != told) bad++; seen = told = 0 }
+    /^through / { told = pointed = $NF }
+    /^cell / { told = $(NF - 7); if ($(NF - 2) != pointed || $(NF - 12) != told + pointed) bad++ }
+    /^  / { seen++; all++ }
+    END { exit bad > 0 || seen != told || pointed < 9 || all < 150 }' all && ok || wrong "$said: not as many as are told"
+for digit in 020 021; do
+    ends 0 xref "$book" --cell $digit
+    cp out digit$digit
+done
+cat digit020 digit021 >wanted
+ends 0 writers "$book" --level
+same out wanted
+for cell in '$20' 0x020 0X20 00000020; do
+    ends 0 xref "$book" --cell "$cell"
+    same out digit020
+done
+for cell in 000 00F 01F 170 2FF 349 357 36E 370 3FF 400 FFFFFFFF; do
+    ends 1 xref "$book" --cell $cell
+    echo "desk: the list of writers: refused by 8, value $((0x$cell)): \$$cell is no data cell (\$020-\$16F)," \
+        "display cell (\$300-\$348) or scan cell (\$358-\$36D)" >wanted
+    same err wanted
+    unbegun
+done
+ends 2 xref "$book" --cell 020 --all
+says err '--cell asks for one cell, so not with --all'
+says err 'usage: desk xref BOOK [--cell HEX | --all]'
+unbegun
+ends 2 xref "$book" --cell
+says err 'a value is due after --cell'
+for cell in zz 100000000 020.1 ''; do
+    ends 2 xref "$book" --cell "$cell"
+    says err 'not a hex number up to FFFFFFFF'
+    unbegun
+done
+ends 2 xref "$book" 020
+says err 'one word too many: 020'
+ends 2 xref --all
+says err 'something is missing'
+ends 2 xref nowhere.book
+says err 'cannot read nowhere.book'
+ends 2 xref folder --all
+says err 'cannot read folder: Is a directory'
+ends 1 xref example.lst --cell 020
+says err 'example.lst: refused by 10, value 0'
+unbegun
+# Tables that cannot be are found out.
+proved=$desk
+desk=$looped
+for command in "xref $book" "xref $book --all"; do
+    # shellcheck disable=SC2086
+    ends 3 $command
+    says err "desk: FAULT: the library's cross-reference: the addresses under a cell do not ascend"
+    says err 'report it'
+done
+ends 3 xref "$book" --cell 304
+says err 'refused by 29, value 0: the tables are not the cross-reference of the program lent with them'
+says err "desk: FAULT: the library's cross-reference: its own tables were refused"
+says err 'report it'
+unbegun
+ends 0 xref none.book
+quiet
 desk=$proved
 
 echo "desk: books"
@@ -1594,6 +1832,12 @@ for at in 0 1 2 5 15 8210 8256 8260; do
         # shellcheck disable=SC2086
         ends 1 $command damaged.book
         says err 'damaged.book: refused by 1'
+    done
+    for command in xref 'xref --all' 'xref --cell 020'; do
+        # shellcheck disable=SC2086
+        ends 1 $command damaged.book
+        says err 'damaged.book: refused by 1'
+        unbegun
     done
     ends 1 run damaged.book nine.script --save never.state
     ends 1 level damaged.book end.state
@@ -1669,8 +1913,11 @@ echo "desk: output that cannot be written"
 if [ -w /dev/full ]; then
     "$desk" --help >/dev/full 2>err && wrong "a full disk is not noticed" || ok
     says err 'could not be written'
-    "$desk" listing "$book" >/dev/full 2>err && wrong "a full disk is not noticed" || ok
-    says err 'could not be written'
+    for command in listing 'xref --all'; do
+        # shellcheck disable=SC2086
+        "$desk" $command "$book" >/dev/full 2>err && wrong "a full disk is not noticed" || ok
+        says err 'could not be written'
+    done
 fi
 no_parts
 
