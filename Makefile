@@ -164,6 +164,9 @@ build/native/deaf: $(patsubst %.c,build/native/objects/%.o,$(DESK) tests/deaf.c 
 build/native/torn: $(patsubst %.c,build/native/objects/%.o,$(DESK) tests/torn.c tests/standin.c $(SECOND))
 	$(CC) -Wl,--wrap=galhoveia_listing_write -o $@ $^
 
+build/native/stale: $(patsubst %.c,build/native/objects/%.o,$(DESK) tests/stale.c tests/standin.c $(SECOND))
+	$(CC) -Wl,--wrap=galhoveia_xref_replace -o $@ $^
+
 build/native/looped: $(patsubst %.c,build/native/objects/%.o,$(DESK) tests/looped.c tests/standin.c $(SECOND))
 	$(CC) -Wl,--wrap=galhoveia_xref_build -o $@ $^
 
@@ -179,7 +182,7 @@ build/sanitized/text: $(patsubst %.c,build/sanitized/objects/%.o,$(TEXT) second/
 # ---- Tests ----
 
 # Desks with a fault in them, which they must find.
-FAULTY_DESKS = build/native/forgetful build/native/deaf build/native/torn build/native/looped
+FAULTY_DESKS = build/native/forgetful build/native/deaf build/native/torn build/native/stale build/native/looped
 
 test: build/plain/header build/plain/header-cpp build/plain/desk build/plain/compare build/plain/text \
     build/native/trials $(STACK) $(FAULTY_DESKS)

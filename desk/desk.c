@@ -2,6 +2,7 @@
 #include "command.h"
 #include "drawing.h"
 #include "explain.h"
+#include "patch.h"
 #include "run.h"
 #include "texts.h"
 #include "two.h"
@@ -455,9 +456,16 @@ static const struct command commands[] = {
      "change it, and once for all those that write through $00F. The writers of a cell are its own joined with these.\n"
      "Without an option it is told how many there are; --all shows each by its line in the program's listing (desk\n"
      "listing). Cells without writers of their own are left out, but for the level's digits. --cell asks the tables for\n"
-     "one cell and shows what desk writers shows of it.\n", NULL, work_xref},
+     "one cell and shows what desk writers shows of it. desk patch keeps the tables up.\n", NULL, work_xref},
+    {"patch", "patch BOOK ADDRESS WORD OUT [--force]", "makes a book with another word at one address of the program",
+     "ADDRESS is in hex, 000 to FFF. WORD has four hex digits, and need not be an instruction. OUT gets the new book,\n"
+     "with BOOK's wiring and level. The address's line in the listing (desk listing) is shown before and now; then each\n"
+     "cell that has other writers than before, with - in front of those that are gone and + in front of new ones.\n"
+     "Writers through $00F are writers of every cell: where these are others, they are shown once, and of the cells only\n"
+     "one whose own writers are others, too.\n", NULL, work_patch},
     {"listing", "listing BOOK [--out FILE [--force]]", "writes a book's program as text",
-     "The listing goes to standard output, or into FILE. desk program reads it back.\n", listing_texts, work_listing},
+     "The listing goes to standard output, or into FILE. desk program reads it back; desk patch replaces one word.\n",
+     listing_texts, work_listing},
     {"program", "program LISTING OUT [--force]", "reads a program back from its listing",
      "OUT gets the 8,192 bytes of a book's program body; desk book make takes them where OUT's name ends in .bin. Only\n"
      "what desk listing can have written is taken; of any other text the first bad line is told.\n", listing_texts,
@@ -478,7 +486,7 @@ static void print_overview(FILE *to)
     fprintf(to, "\ndesk COMMAND --help tells more of one. No file is written over unless --force is given.\n"
                 "Exit status: 0 done; 1 refused by the library, which is said with its number and value; 2 wrong use,\n"
                 "or a file that cannot be read, is in the way, or is not what it should be; 3 a fault of the library,\n"
-                "which a watched run, a run that is heard, the demo and whatever takes a listing's lines or a\n"
+                "which a watched run, a run that is heard, the demo, a patch and whatever takes a listing's lines or a\n"
                 "cross-reference look for.\n");
 }
 

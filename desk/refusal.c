@@ -54,6 +54,9 @@ void say_refusal(const char *what, uint32_t number, uint64_t value)
     case GALHOVEIA_OPTIONS:
         fprintf(stderr, "options are 0 to 7");
         break;
+    case GALHOVEIA_FIELD:
+        fprintf(stderr, "program addresses are $000 to $%03X", GALHOVEIA_WORDS - 1);
+        break;
     case GALHOVEIA_LISTING:
         if (value < GALHOVEIA_WORDS)
             fprintf(stderr, "the text is no listing; the first line that is missing or not as it must be is line %llu "

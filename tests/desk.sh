@@ -1,12 +1,13 @@
 #!/bin/sh
 # Tests of the desk command: desk.sh PATH-OF-DESK PATH-OF-FORGETFUL-DESK (forgetful.c) PATH-OF-DEAF-DESK (deaf.c)
-# PATH-OF-TORN-DESK (torn.c) PATH-OF-LOOPED-DESK (looped.c), from the repository's folder.
+# PATH-OF-TORN-DESK (torn.c) PATH-OF-STALE-DESK (stale.c) PATH-OF-LOOPED-DESK (looped.c), from the repository's folder.
 # Works in a folder of its own.
 desk=$(realpath "$1") || exit 2
 forgetful=$(realpath "$2") || exit 2
 deaf=$(realpath "$3") || exit 2
 torn=$(realpath "$4") || exit 2
-looped=$(realpath "$5") || exit 2
+stale=$(realpath "$5") || exit 2
+looped=$(realpath "$6") || exit 2
 examples=$(realpath examples) || exit 2
 inspector=$(realpath docs/INSPECTOR.md) || exit 2
 work=$(mktemp -d) || exit 2
@@ -74,7 +75,7 @@ ends 0 --help
 says out 'desk writers BOOK CELL'
 quiet
 ends 0 book --help
-for command in demo fresh run run-two level picture writers xref listing program 'book check' 'book make'; do
+for command in demo fresh run run-two level picture writers xref patch listing program 'book check' 'book make'; do
     # shellcheck disable=SC2086
     ends 0 $command --help
     says out "usage: desk $command"
@@ -95,6 +96,9 @@ done
 ends 0 xref --help
 says out 'usage: desk xref BOOK [--cell HEX | --all]'
 says out 'The writers of a cell are its own joined with these.'
+ends 0 patch --help
+says out 'usage: desk patch BOOK ADDRESS WORD OUT [--force]'
+says out 'WORD has four hex digits, and need not be an instruction.'
 ends 0 book make --help
 says out 'EQU'
 says out '$300.2'
@@ -106,7 +110,7 @@ says err 'no such command: nonsense'
 ends 2 book
 ends 2 book burn
 says err 'no such command: book burn'
-for command in fresh run run-two level picture writers xref listing program 'book check' 'book make'; do
+for command in fresh run run-two level picture writers xref patch listing program 'book check' 'book make'; do
     # shellcheck disable=SC2086
     ends 2 $command
     says err "usage: desk $command"
@@ -1532,7 +1536,7 @@ case $(ls -l masked.lst) in -rw-r-----*) ok ;; *) wrong "a listing's mode does n
 # A listing that lacks a line is found out.
 proved=$desk
 desk=$torn
-for command in "listing $book" "writers $book --level" "xref $book" \
+for command in "listing $book" "writers $book --level" "xref $book" "patch $book 027 3C21 never.book" \
     "book check $book" 'book make never.book stop.asm small.wiring small.level'; do
     # shellcheck disable=SC2086
     ends 3 $command
@@ -1767,12 +1771,296 @@ for command in "xref $book" "xref $book --all"; do
     says err "desk: FAULT: the library's cross-reference: the addresses under a cell do not ascend"
     says err 'report it'
 done
-ends 3 xref "$book" --cell 304
-says err 'refused by 29, value 0: the tables are not the cross-reference of the program lent with them'
-says err "desk: FAULT: the library's cross-reference: its own tables were refused"
-says err 'report it'
-unbegun
+for command in "xref $book --cell 304" "patch $book 027 3C21 never.book"; do
+    # shellcheck disable=SC2086
+    ends 3 $command
+    says err 'refused by 29, value 0: the tables are not the cross-reference of the program lent with them'
+    says err "desk: FAULT: the library's cross-reference: its own tables were refused"
+    says err 'report it'
+    unbegun
+done
+absent never.book
 ends 0 xref none.book
+quiet
+desk=$proved
+
+echo "desk: one word replaced"
+cat >wanted <<'END'
+before: 027 3C20 STA 020
+now:    027 3C21 STA 021
+2 of 431 cells have other writers than before (- gone, + new):
+cell $020 (high digit of the level): 4 instructions before, 3 now
+    015 7820 LDI 020 0
+  - 027 3C20 STA 020
+    04A 3C0F STA 00F  ; wherever the pointer $012, $011, $010 stands
+    04D 3C0F STA 00F  ; wherever the pointer $012, $011, $010 stands
+cell $021 (low digit of the level): 4 instructions before, 5 now
+    016 7921 LDI 021 2
+  + 027 3C21 STA 021
+    02B 3C21 STA 021
+    04A 3C0F STA 00F  ; wherever the pointer $012, $011, $010 stands
+    04D 3C0F STA 00F  ; wherever the pointer $012, $011, $010 stands
+patched.book: a book of 8261 bytes
+END
+ends 0 patch "$book" 027 3C21 patched.book
+same out wanted
+quiet
+# Both lists, before and now, are those of desk writers.
+sed -n 's/^  [ -] /  /p' out >was
+sed -n 's/^  [ +] /  /p' out >is
+ends 0 writers "$book" --level
+grep '^  ' out >wanted
+same was wanted
+ends 0 writers patched.book --level
+grep '^  ' out >wanted
+same is wanted
+# Of the book's bytes, numbered from 1, only the word's second is another: octal 40 before, 41 now.
+cmp -l "$book" patched.book | awk '{ print $1, $2, $3 }' >got
+echo "$((16 + 2 * 0x027 + 2)) 40 41" >wanted
+same got wanted
+ends 0 book check patched.book
+ends 0 listing patched.book
+sed '40s/.*/027 3C21 STA 021/' example.lst >wanted
+same out wanted
+# Through $00F: shown once, of 430 cells, since the cell that the word named could be changed there before, too.
+cat >wanted <<'END'
+before: 027 3C20 STA 020
+now:    027 3C0F STA 00F
+430 of 431 cells have other writers than before (- gone, + new):
+through $00F, writers of every data, display and scan cell: 2 instructions before, 3 now
+  + 027 3C0F STA 00F  ; wherever the pointer $012, $011, $010 stands
+    04A 3C0F STA 00F  ; wherever the pointer $012, $011, $010 stands
+    04D 3C0F STA 00F  ; wherever the pointer $012, $011, $010 stands
+cell $020 (high digit of the level): 4 instructions before, 4 now
+    015 7820 LDI 020 0
+  - 027 3C20 STA 020
+  + 027 3C0F STA 00F  ; wherever the pointer $012, $011, $010 stands
+    04A 3C0F STA 00F  ; wherever the pointer $012, $011, $010 stands
+    04D 3C0F STA 00F  ; wherever the pointer $012, $011, $010 stands
+pointed.book: a book of 8261 bytes
+END
+ends 0 patch "$book" 027 3C0F pointed.book
+same out wanted
+# A word that is no instruction, at which a run then stops.
+cat >wanted <<'END'
+before: 04A 3C0F STA 00F
+now:    04A CB80 DATA
+431 of 431 cells have other writers than before (- gone, + new):
+through $00F, writers of every data, display and scan cell: 2 instructions before, 1 now
+  - 04A 3C0F STA 00F  ; wherever the pointer $012, $011, $010 stands
+    04D 3C0F STA 00F  ; wherever the pointer $012, $011, $010 stands
+data.book: a book of 8261 bytes
+END
+ends 0 patch "$book" 04A CB80 data.book
+same out wanted
+quiet
+ends 1 run data.book "$script"
+says err 'refused by 6, value 74'
+# Another instruction that can change the same cell, and the very word that stands there.
+printf '%s\n' 'before: 015 7820 LDI 020 0' 'now:    015 78A0 LDI 020 1' 'no cell has other writers than before' \
+    'same.book: a book of 8261 bytes' >wanted
+ends 0 patch "$book" 015 78A0 same.book
+same out wanted
+printf '%s\n' 'before: FFF FFFF NOP' 'now:    FFF FFFF NOP' 'no cell has other writers than before' \
+    'same.book: a book of 8261 bytes' >wanted
+ends 0 patch "$book" FFF FFFF same.book --force
+same out wanted
+same same.book "$book"
+# One cell alone, which had none.
+printf '%s\n' 'before: 800 FFFF NOP' 'now:    800 3F58 STA 358' \
+    '1 of 431 cells has other writers than before (- gone, + new):' 'cell $358: 0 instructions before, 1 now' \
+    '  + 800 3F58 STA 358' 'one.book: a book of 8219 bytes' >wanted
+ends 0 patch none.book 800 3F58 one.book
+same out wanted
+printf '%s\n' 'before: 800 3F58 STA 358' 'now:    800 FFFF NOP' \
+    '1 of 431 cells has other writers than before (- gone, + new):' 'cell $358: 1 instruction before, 0 now' \
+    '  - 800 3F58 STA 358' 'again.book: a book of 8219 bytes' >wanted
+ends 0 patch one.book 800 FFFF again.book
+same out wanted
+same again.book none.book
+rm again.book
+
+# told_of_patch ADDRESS: which cells a patch at that address has to tell, by what desk xref --all shows of the book
+# before (all) and of the book now (all.now).
+told_of_patch() {
+    awk -v cells="$cells" -v patched="$1" '
+        FNR == 1 { side++ }
+        /^through / { group = "through" }
+        /^cell / { group = substr($2, 2, 3); name[group] = substr($0, 1, index($0, ":")) }
+        /^  / { used[$1]; kept[side, group, $1] = substr($0, 3) }
+        # The line of an address under a cell, and in the list of the cell, where it can stand through $00F.
+        function own(side, group, address) {
+            return (side, group, address) in kept ? kept[side, group, address] : ""
+        }
+        function line(side, group, address) {
+            return (side, group, address) in kept ? kept[side, group, address] : own(side, "through", address)
+        }
+        function others_own(group,    at) {
+            for (at = 1; at <= addresses; at++)
+                if ((own(1, group, sorted[at]) == "") != (own(2, group, sorted[at]) == "")) return 1
+            return 0
+        }
+        function others(group,    at) {
+            for (at = 1; at <= addresses; at++)
+                if ((line(1, group, sorted[at]) == "") != (line(2, group, sorted[at]) == "")) return 1
+            return 0
+        }
+        function show(group,    at, address, old, new, was, is, text) {
+            for (at = 1; at <= addresses; at++) {
+                address = sorted[at]
+                old = line(1, group, address)
+                new = line(2, group, address)
+                was += old != ""
+                is += new != ""
+                if (old != "") text = text (new != "" && address != patched ? "    " : "  - ") old "\n"
+                if (new != "" && (old == "" || address == patched)) text = text "  + " new "\n"
+            }
+            printf "%s %d instruction%s before, %d now\n%s", name[group], was, was == 1 ? "" : "s", is, text
+        }
+        END {
+            name["through"] = "through $00F, writers of every data, display and scan cell:"
+            for (number = 0; number < 4096; number++)
+                if (sprintf("%03X", number) in used) sorted[++addresses] = sprintf("%03X", number)
+            count = split(cells, cell, " ")
+            for (one = 1; one <= count; one++) changed += others(cell[one])
+            if (changed == 0) {
+                print "no cell has other writers than before"
+                exit
+            }
+            printf "%d of %d cells %s other writers than before (- gone, + new):\n", changed, count,
+                changed == 1 ? "has" : "have"
+            if (others_own("through")) show("through")
+            for (one = 1; one <= count; one++) if (others_own(cell[one])) show(cell[one])
+        }' all all.now
+}
+
+# replaces BOOK ADDRESS WORD: what is told is so, and there and back again is the same book.
+replaces() {
+    ends 0 xref "$1" --all
+    cp out all
+    ends 0 listing "$1"
+    line=$(sed -n "$((0x$2 + 1))p" out)
+    ends 0 patch "$1" "$2" "$3" there.book --force
+    quiet
+    cp out there
+    ends 0 xref there.book --all
+    cp out all.now
+    ends 0 listing there.book
+    {
+        echo "before: $line"
+        echo "now:    $(sed -n "$((0x$2 + 1))p" out)"
+        told_of_patch "$2"
+        echo "there.book: a book of $(($(wc -c <"$1"))) bytes"
+    } >wanted
+    if cmp -s there wanted; then ok; else wrong "desk patch $*: not told as it must be:"; diff there wanted; fi
+    line=${line#* }
+    ends 0 patch there.book "$2" "${line%% *}" back.book --force
+    same back.book "$1"
+}
+# Each way between no writer, one of a cell's own and one through $00F, before, between and behind the others.
+for at in 000 015 027 044 04A 04D 06B FFF; do
+    for word in FFFF CB80 3C20 3F6D 3C0F 4F8F; do
+        replaces "$book" $at $word
+    done
+done
+for at in 000 003 117 7FF 817 E17 FFF; do
+    for word in FFFF 3C20 3C0F; do
+        replaces kinds.book $at $word
+    done
+done
+
+# Addresses and words as they can be given.
+for words in '27 3C21' '$027 3c21' '0x27 $3C21' '0X027 0x3C21' '00000027 0X3c21'; do
+    # shellcheck disable=SC2086
+    ends 0 patch "$book" $words other.book --force
+    same other.book patched.book
+done
+for address in 1000 FFFFFFFF; do
+    ends 1 patch "$book" $address FFFF never.book
+    echo "desk: the word at \$$address: refused by 13, value 0: program addresses are \$000 to \$FFF" >wanted
+    same err wanted
+    unbegun
+done
+for address in zz 100000000 02G ''; do
+    ends 2 patch "$book" "$address" FFFF never.book
+    says err 'not a hex number up to FFFFFFFF'
+    unbegun
+done
+for word in 3C2 3C210 03C21 10000 3C2G NOP '$' 0x 0x3C2 '$3C210' -3C2 ''; do
+    ends 2 patch "$book" 027 "$word" never.book
+    says err "a word has four hex digits, not $word"
+    unbegun
+done
+ends 2 patch "$book" 027 3C21
+says err 'something is missing'
+ends 2 patch "$book" 027 3C21 never.book more
+says err 'one word too many: more'
+ends 2 patch "$book" 027 3C21 --out never.book
+says err 'unknown option --out'
+absent never.book
+# What is in the way, or wrong. What is refused leaves the file.
+cp patched.book kept
+ends 2 patch "$book" 027 3C0F patched.book
+says err 'patched.book exists and is left as it is; --force writes over it'
+unbegun
+same patched.book kept
+ends 1 patch "$book" 1000 3C0F patched.book --force
+same patched.book kept
+ends 1 patch example.lst 027 3C0F patched.book --force
+says err 'example.lst: refused by 10, value 0'
+same patched.book kept
+ends 0 patch "$book" 027 3C0F patched.book --force
+same patched.book pointed.book
+# A book in its own place.
+cp "$book" place.book
+ends 2 patch place.book 027 3C21 place.book
+says err 'place.book exists and is left as it is; --force writes over it'
+same place.book "$book"
+ends 0 patch place.book 027 3C21 ./place.book --force
+same place.book kept
+ends 0 patch place.book 027 3C20 place.book --force
+same place.book "$book"
+for odd in pipe link dangling folder; do
+    ends 2 patch "$book" 027 3C21 $odd --force
+    says err "cannot write $odd: it is no ordinary file"
+    unbegun
+done
+if [ -p pipe ] && [ -L link ] && [ -L dangling ] && [ -d folder ]; then ok; else wrong "something odd was replaced"; fi
+ends 2 patch "$book" 027 3C21 nowhere/a.book
+says err 'cannot write nowhere/a.book'
+unbegun
+ends 2 patch nowhere.book 027 3C21 never.book
+says err 'cannot read nowhere.book'
+ends 2 patch folder 027 3C21 never.book
+says err 'cannot read folder: Is a directory'
+absent never.book
+no_parts
+(umask 027 && "$desk" patch "$book" 027 3C21 masked.book >/dev/null)
+case $(ls -l masked.book) in -rw-r-----*) ok ;; *) wrong "a patched book's mode does not follow the umask" ;; esac
+# A replacement that does not keep the tables up, or does not replace the word, is found out before anything is written.
+proved=$desk
+desk=$stale
+for words in '026 3C0F' '02A FFFF' '04A 3C20' '04A CB80'; do
+    # shellcheck disable=SC2086
+    ends 3 patch "$book" $words never.book
+    says err "desk: FAULT: the library's cross-reference: a replacement leaves other tables than a fresh build gives"
+    says err 'report it'
+    unbegun
+done
+for words in '027 3C21' 'FFF 0000'; do
+    # shellcheck disable=SC2086
+    ends 3 patch "$book" $words never.book
+    says err "desk: FAULT: the library's cross-reference: a replacement leaves another program than it must"
+    says err 'report it'
+    unbegun
+done
+cp kept forced.book
+ends 3 patch "$book" 04A 3C20 forced.book --force
+same forced.book kept
+ends 1 patch "$book" 1000 3C21 never.book
+says err 'refused by 13, value 0'
+absent never.book
+ends 0 patch "$book" 02A 7322 unmoved.book
 quiet
 desk=$proved
 
@@ -1839,6 +2127,9 @@ for at in 0 1 2 5 15 8210 8256 8260; do
         says err 'damaged.book: refused by 1'
         unbegun
     done
+    ends 1 patch damaged.book 027 3C21 never.book
+    says err 'damaged.book: refused by 1'
+    absent never.book
     ends 1 run damaged.book nine.script --save never.state
     ends 1 level damaged.book end.state
     ends 1 picture damaged.book end.state
