@@ -110,7 +110,7 @@ build/bench/objects/bench/sides.o: asked
 # A library that is measured, now and before, is linked at four offsets (bench/sides.h): what puts it there, and copies
 # of it whose calls have names of their own; everything else in a copy stays its own.
 OFFSETS = 0 1 2 3
-MEASURED = fresh run step list level picture listing_write listing_read run_two
+MEASURED = fresh run step list level picture listing_write listing_read run_two xref_build xref_list xref_replace
 
 build/bench/offset%.o:
 	@mkdir -p $(dir $@)

@@ -11,7 +11,8 @@
 
 enum {
     RUN_EVENTS = 2000000, STEPS = 40000, LISTED_CELLS = 40, LISTS = 40, SECOND_LISTS = 1, LEVELS = 40000,
-    PICTURES = 40000, LISTINGS = 100, OFTEN = 10, SELDOM = 100, LONGEST = 10000000, TIMED_AT_LEAST = 1000000
+    PICTURES = 40000, LISTINGS = 100, XREFS = 200, OFTEN = 10, SELDOM = 100, LONGEST = 10000000,
+    TIMED_AT_LEAST = 1000000
 };
 
 static struct machine awake(void)
@@ -244,6 +245,63 @@ static void measure_two(const char *what, struct load alone, struct machine star
     line_of_two(what, &times);
 }
 
+/* ---- The cross-reference ---- */
+
+static int sides_with_xref(void)
+{
+    return sides > BEFORE && side_in(0, BEFORE)->xref_build == NULL ? BEFORE : sides;
+}
+
+struct xref_load {
+    const uint8_t *program;
+    unsigned cells;
+    struct replacement replacements[2 * XREFS]; /* forth, then back */
+};
+
+/* What a side's calls come to. */
+struct xref_ends {
+    struct xref built, forth, back;
+    uint8_t answer[GALHOVEIA_PROGRAM_BYTES];
+};
+
+static void time_xref(int turn, int at, const struct xref_load *load, struct times times[XREF_CALLS],
+                      struct xref_ends *ends)
+{
+    const struct side *side = side_in(turn, at);
+    double forth, back;
+
+    memset(ends, 0, sizeof *ends);
+    memcpy(ends->built.program, load->program, sizeof ends->built.program);
+    times[BUILD].of[at][turn] = time_builds(side, XREFS, &ends->built);
+    times[ANSWER].of[at][turn] = time_answers(side, &ends->built, load->cells, XREFS, ends->answer);
+    ends->forth = ends->built;
+    forth = time_replacements(side, load->replacements, XREFS, &ends->forth);
+    ends->back = ends->forth;
+    back = time_replacements(side, load->replacements + XREFS, XREFS, &ends->back);
+    times[REPLACE].of[at][turn] = (forth + back) / 2;
+}
+
+/* Galhoveia's calls are timed right behind the lists that they are held against. */
+static void measure_xref(const char *what, const uint8_t *program, unsigned cells)
+{
+    static struct xref_ends ends[SIDES_MOST];
+    static uint8_t list[GALHOVEIA_PROGRAM_BYTES];
+    struct xref_load load = {.program = program, .cells = cells};
+    struct times times[XREF_CALLS] = {0};
+
+    forth_and_back(load.replacements, XREFS, program);
+    for (int turn = 0; turn < TURNS; turn++) {
+        times[LIST].of[GALHOVEIA][turn] = time_lists(side_in(turn, GALHOVEIA), program, cells, XREFS, list);
+        for (int at = 0; at < sides_with_xref(); at++) {
+            time_xref(turn, at, &load, times, &ends[at]);
+            same(what, list, ends[at].answer, sizeof list);
+            same(what, &ends[at].built, &ends[at].back, sizeof ends[at].back);
+            same(what, &ends[GALHOVEIA], &ends[at], sizeof ends[at]);
+        }
+    }
+    lines_of_xref(what, times);
+}
+
 /* ---- How the time grows ---- */
 
 static double time_length(int turn, struct load load, size_t length)
@@ -325,6 +383,12 @@ int main(void)
     measure_two("the example dispatcher", (struct load){example, example_keys}, awake(), AT_RANDOM);
     measure_two("asleep in HALT", (struct load){mixture, cycles}, asleep(), AT_RANDOM);
     measure_two("general events", (struct load){general, cycles}, awake(), AT_RANDOM);
+    heading_of_xref(sides_with_xref());
+    measure_xref("mixed program", mixture, LISTED_CELLS);
+    measure_xref("the example dispatcher", example, LISTED_CELLS);
+    measure_xref("calls and registers", calls, LISTED_CELLS);
+    measure_xref("NOPs", nops, LISTED_CELLS);
+    measure_xref("every word names the cell", writers, 1);
     measure_lengths("run: how the time grows, mixed program: events in a run, ns an event",
                     (struct load){mixture, cycles});
     return EXIT_SUCCESS;

@@ -22,7 +22,7 @@ enum {
 
 /* Each program begins its draws anew, so that it does not hang on what was made before it; its script goes on with
    them. */
-enum { MIXED_SEED = 67, CALLS_SEED = 54, FORMS_SEED = 17, CARS_SEED = 2, PANEL_SEED = 6754 };
+enum { MIXED_SEED = 67, CALLS_SEED = 54, FORMS_SEED = 17, CARS_SEED = 2, WORDS_SEED = 29, PANEL_SEED = 6754 };
 
 static uint32_t seed;
 
@@ -36,6 +36,11 @@ static void put(uint8_t *program, unsigned address, unsigned word)
 {
     program[2 * address] = (uint8_t)(word >> 8);
     program[2 * address + 1] = (uint8_t)word;
+}
+
+static uint16_t word_at(const uint8_t *program, unsigned address)
+{
+    return (uint16_t)(program[2 * address] << 8 | program[2 * address + 1]);
 }
 
 void only_nops(uint8_t *program)
@@ -294,6 +299,23 @@ void deal(uint8_t *entries, size_t length, const uint8_t *script, enum dealing d
 
         entries[ENTRY_BYTES * entry] = (uint8_t)car;
         entries[ENTRY_BYTES * entry + 1] = script[own[car]++];
+    }
+}
+
+/* ---- Replacements ---- */
+
+void forth_and_back(struct replacement *replacements, size_t forth, const uint8_t *program)
+{
+    uint8_t replaced[GALHOVEIA_PROGRAM_BYTES];
+
+    seed = WORDS_SEED;
+    memcpy(replaced, program, sizeof replaced);
+    for (size_t at = 0; at < forth; at++) {
+        unsigned address = any(GALHOVEIA_WORDS), word = any_form();
+
+        replacements[at] = (struct replacement){(uint16_t)address, (uint16_t)word};
+        replacements[2 * forth - 1 - at] = (struct replacement){(uint16_t)address, word_at(replaced, address)};
+        put(replaced, address, word);
     }
 }
 

@@ -34,6 +34,13 @@ enum { ROW = 5000 };
    them. */
 void deal(uint8_t *entries, size_t length, const uint8_t *script, enum dealing dealing, size_t own[CARS]);
 
+struct replacement {
+    uint16_t address, word;
+};
+
+/* As many replacements of the program's words, drawn, and then as many that take them back, the last one first. */
+void forth_and_back(struct replacement *replacements, size_t forth, const uint8_t *program);
+
 /* A wiring of GALHOVEIA_ELEMENTS_MOST elements, and something in the display cells of a memory. */
 void full_panel(uint8_t *memory, uint8_t *wiring);
 

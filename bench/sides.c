@@ -20,12 +20,16 @@
     uint32_t name##_run_two(const uint8_t *, size_t, const uint8_t *, size_t, uint8_t *, size_t, uint8_t *, size_t,   \
                             uint8_t *, size_t, uint8_t *, size_t, uint8_t *, size_t, uint8_t *, size_t,               \
                             const uint8_t *, size_t, uint32_t, uint32_t, uint32_t *, uint32_t *, uint64_t *,          \
-                            uint64_t *) attribute;
+                            uint64_t *) attribute;                                                                     \
+    uint32_t name##_xref_build(const uint8_t *, size_t, uint16_t *, size_t, uint64_t *) attribute;                    \
+    uint32_t name##_xref_list(const uint8_t *, size_t, const uint16_t *, size_t, uint32_t, uint8_t *, size_t,         \
+                              uint64_t *, uint64_t *) attribute;                                                       \
+    uint32_t name##_xref_replace(uint8_t *, size_t, uint16_t *, size_t, uint32_t, uint16_t, uint64_t *) attribute;
 
 #define CALLS(name)                                                                                                    \
     {                                                                                                                  \
         name##_fresh, name##_run, name##_step, name##_list, name##_level, name##_picture, name##_listing_write,       \
-            name##_listing_read, name##_run_two                                                                        \
+            name##_listing_read, name##_run_two, name##_xref_build, name##_xref_list, name##_xref_replace             \
     }
 
 DECLARE(now0)

@@ -28,6 +28,10 @@ struct side {
     uint32_t (*run_two)(const uint8_t *, size_t, const uint8_t *, size_t, uint8_t *, size_t, uint8_t *, size_t,
                         uint8_t *, size_t, uint8_t *, size_t, uint8_t *, size_t, uint8_t *, size_t, const uint8_t *,
                         size_t, uint32_t, uint32_t, uint32_t *, uint32_t *, uint64_t *, uint64_t *);
+    uint32_t (*xref_build)(const uint8_t *, size_t, uint16_t *, size_t, uint64_t *);
+    uint32_t (*xref_list)(const uint8_t *, size_t, const uint16_t *, size_t, uint32_t, uint8_t *, size_t, uint64_t *,
+                          uint64_t *);
+    uint32_t (*xref_replace)(uint8_t *, size_t, uint16_t *, size_t, uint32_t, uint16_t, uint64_t *);
 };
 
 extern const int sides; /* BEFORE is among them, or not */

@@ -25,6 +25,14 @@ void line(const char *what, const struct times *times);
 void heading_of_two(int taking_part);
 void line_of_two(const char *what, const struct times *times);
 
+/* The calls of the cross-reference, and the list that they are held against. */
+enum { LIST, BUILD, ANSWER, REPLACE, XREF_CALLS };
+
+/* In microseconds. Here a ratio to galhoveia's own list or build is one of times, so that 2 means twice as long: of the
+   best turns, then the median; the goal is the most that it may be. */
+void heading_of_xref(int taking_part);
+void lines_of_xref(const char *what, const struct times times[XREF_CALLS]);
+
 void heading_in_microseconds(void);
 void line_in_microseconds(const char *what, const struct times *times);
 

@@ -57,6 +57,11 @@ double time_steps(const struct side *side, struct load load, size_t times, struc
     return (now() - start) / (double)times;
 }
 
+static uint32_t asked_cell(size_t at, unsigned cells)
+{
+    return 0x020 + (uint32_t)(at % cells);
+}
+
 double time_lists(const struct side *side, const uint8_t *program, unsigned cells, size_t times,
                   uint8_t addresses[GALHOVEIA_PROGRAM_BYTES])
 {
@@ -64,12 +69,51 @@ double time_lists(const struct side *side, const uint8_t *program, unsigned cell
     double start = now(), time;
 
     for (size_t at = 0; at < times; at++)
-        must(side->list(program, GALHOVEIA_PROGRAM_BYTES, 0x020 + (uint32_t)(at % cells), addresses,
+        must(side->list(program, GALHOVEIA_PROGRAM_BYTES, asked_cell(at, cells), addresses,
                         GALHOVEIA_PROGRAM_BYTES, &count, &value) == 0,
              "a list");
     time = (now() - start) / (double)times;
     memset(addresses + count, 0, GALHOVEIA_PROGRAM_BYTES - count);
     return time;
+}
+
+double time_builds(const struct side *side, size_t times, struct xref *xref)
+{
+    uint64_t value;
+    double start = now();
+
+    for (size_t at = 0; at < times; at++)
+        must(side->xref_build(xref->program, sizeof xref->program, xref->tables, GALHOVEIA_XREF_NUMBERS, &value) == 0,
+             "a cross-reference");
+    return (now() - start) / (double)times;
+}
+
+double time_answers(const struct side *side, const struct xref *xref, unsigned cells, size_t times,
+                    uint8_t addresses[GALHOVEIA_PROGRAM_BYTES])
+{
+    uint64_t count = 0, value;
+    double start = now(), time;
+
+    for (size_t at = 0; at < times; at++)
+        must(side->xref_list(xref->program, sizeof xref->program, xref->tables, GALHOVEIA_XREF_NUMBERS,
+                             asked_cell(at, cells), addresses, GALHOVEIA_PROGRAM_BYTES, &count, &value) == 0,
+             "an answer");
+    time = (now() - start) / (double)times;
+    memset(addresses + count, 0, GALHOVEIA_PROGRAM_BYTES - count);
+    return time;
+}
+
+double time_replacements(const struct side *side, const struct replacement *replacements, size_t count,
+                         struct xref *xref)
+{
+    uint64_t value;
+    double start = now();
+
+    for (size_t at = 0; at < count; at++)
+        must(side->xref_replace(xref->program, sizeof xref->program, xref->tables, GALHOVEIA_XREF_NUMBERS,
+                                replacements[at].address, replacements[at].word, &value) == 0,
+             "a replacement");
+    return (now() - start) / (double)count;
 }
 
 double time_levels(const struct side *side, const struct machine *machine, const uint8_t *body, size_t times,

@@ -32,6 +32,22 @@ double time_steps(const struct side *side, struct load load, size_t times, struc
 double time_lists(const struct side *side, const uint8_t *program, unsigned cells, size_t times,
                   uint8_t addresses[GALHOVEIA_PROGRAM_BYTES]);
 
+/* A program and its cross-reference. */
+struct xref {
+    uint8_t program[GALHOVEIA_PROGRAM_BYTES];
+    uint16_t tables[GALHOVEIA_XREF_NUMBERS];
+};
+
+double time_builds(const struct side *side, size_t times, struct xref *xref);
+
+/* What time_lists makes, from the tables. */
+double time_answers(const struct side *side, const struct xref *xref, unsigned cells, size_t times,
+                    uint8_t addresses[GALHOVEIA_PROGRAM_BYTES]);
+
+/* Each replacement is made once. */
+double time_replacements(const struct side *side, const struct replacement *replacements, size_t count,
+                         struct xref *xref);
+
 double time_levels(const struct side *side, const struct machine *machine, const uint8_t *body, size_t times,
                    struct shown *shown);
 double time_pictures(const struct side *side, const struct machine *machine, const uint8_t *wiring, size_t times,
