@@ -453,16 +453,18 @@ static const struct command commands[] = {
      NULL, work_writers},
     {"xref", "xref BOOK [--cell HEX | --all]", "shows the writers of every cell: the program's cross-reference",
      "The library keeps them in tables: under each data, display and scan cell the instructions that name it and can\n"
-     "change it, and once for all those that write through $00F. The writers of a cell are its own joined with these.\n"
+     "change it, and once for all those that can change a cell through $00F. The writers of a cell are its own joined\n"
+     "with these.\n"
      "Without an option it is told how many there are; --all shows each by its line in the program's listing (desk\n"
      "listing). Cells without writers of their own are left out, but for the level's digits. --cell asks the tables for\n"
-     "one cell and shows what desk writers shows of it. desk patch keeps the tables up.\n", NULL, work_xref},
+     "one cell and shows what desk writers shows of it. desk patch replaces a word and tells what changes.\n", NULL,
+     work_xref},
     {"patch", "patch BOOK ADDRESS WORD OUT [--force]", "makes a book with another word at one address of the program",
      "ADDRESS is in hex, 000 to FFF. WORD has four hex digits, and need not be an instruction. OUT gets the new book,\n"
      "with BOOK's wiring and level. The address's line in the listing (desk listing) is shown before and now; then each\n"
      "cell that has other writers than before, with - in front of those that are gone and + in front of new ones.\n"
-     "Writers through $00F are writers of every cell: where these are others, they are shown once, and of the cells only\n"
-     "one whose own writers are others, too.\n", NULL, work_patch},
+     "Writers through $00F are writers of every cell: where these are others, they are shown once for all cells, and the\n"
+     "cell that the old or the new word names is shown besides.\n", NULL, work_patch},
     {"listing", "listing BOOK [--out FILE [--force]]", "writes a book's program as text",
      "The listing goes to standard output, or into FILE. desk program reads it back; desk patch replaces one word.\n",
      listing_texts, work_listing},

@@ -1,7 +1,8 @@
 /* Galhoveia: a proved emulator of the 4-bit controller SH67P54, for C and C++.
 
    Link with target/staticlib/libhost.a (x86-64 code), which `make archive` builds. The library keeps nothing between
-   calls: the chip's program, its memory and its registers stay with the caller and are lent to each call as bytes.
+   calls: the chip's program, its memory and its registers stay with the caller and are lent to each call as bytes,
+   the tables of a cross-reference as numbers.
 
      program   8,192 bytes: 4,096 words of 16 bits, high byte first; word n is at bytes 2n and 2n + 1
      memory    1,024 bytes: one nibble of the chip's RAM in each, at the chip's own addresses $000 to $3FF
@@ -18,7 +19,7 @@
 
    What the caller must keep:
      - A pointer is valid for the length given beside it; an out pointer (uint64_t *value and the like) is valid for
-       one number of its type and aligned for it. Not even a length of 0 or a refusal makes a null pointer right.
+       one number of its type. Out pointers and tables are aligned for their numbers. Not even a length of 0 or a refusal makes a null pointer right.
      - Nothing that is lent to one call overlaps: neither two areas, nor an area and an out value, nor two out values.
      - While a call works, no other thread touches what is lent to it. Calls on separate areas may run side by side.
      - There is stack for the call, below its arguments: in the archive (x86-64) no call takes more than
@@ -217,9 +218,10 @@ uint32_t galhoveia_list(const uint8_t *program, size_t program_len, uint32_t cel
                         uint8_t *addresses, size_t room, uint64_t *count, uint64_t *value);
 
 /* Builds the cross-reference of a program: for every cell that galhoveia_list can be asked about the addresses of its
-   writers, in tables that answer cell after cell and are kept up as words are replaced. An instruction that writes the
-   cell it names is kept under that cell, one that writes through $00F once, under GALHOVEIA_XREF_POINTED. The tables
-   are numbers of 16 bits in the processor's own order, and their length counts numbers:
+   writers, in tables that answer cell after cell and are kept up as words are replaced. An instruction that can change
+   the data, display or scan cell that it names is kept under that cell; one that can change a cell through $00F is kept
+   once, under GALHOVEIA_XREF_POINTED; any other word under none. The tables are numbers of 16 bits in the processor's
+   own order, and their length counts numbers:
 
      tables[c]         for c 0 to 1023, the lowest address kept under cell c
      tables[1024 + a]  for a 0 to 4095, the next higher address kept under the same cell as address a
@@ -236,7 +238,7 @@ uint32_t galhoveia_xref_build(const uint8_t *program, size_t program_len, uint16
 uint32_t galhoveia_xref_list(const uint8_t *program, size_t program_len, const uint16_t *tables, size_t tables_len,
                              uint32_t cell, uint8_t *addresses, size_t room, uint64_t *count, uint64_t *value);
 
-/* Replaces the program's word at an address by any other, listed or not, and keeps the tables up with it: after it they
+/* Replaces the program's word at an address by any word, listed or not, and keeps the tables up with it: after it they
    are what galhoveia_xref_build gives for the new program, and numbers beyond them stay. Can answer, in this order,
    1, 13 (an address above 4095), 29 (the tables are not those of the program before); then neither the program nor the
    tables are touched. */
