@@ -453,11 +453,11 @@ static const struct command commands[] = {
      NULL, work_writers},
     {"xref", "xref BOOK [--cell HEX | --all]", "shows the writers of every cell: the program's cross-reference",
      "The library keeps them in tables: under each data, display and scan cell the instructions that name it and can\n"
-     "change it, and once for all those that can change a cell through $00F. The writers of a cell are its own joined\n"
-     "with these.\n"
-     "Without an option it is told how many there are; --all shows each by its line in the program's listing (desk\n"
-     "listing). Cells without writers of their own are left out, but for the level's digits. --cell asks the tables for\n"
-     "one cell and shows what desk writers shows of it. desk patch replaces a word and tells what changes.\n", NULL,
+     "change it, and once for all cells those that can change a cell through $00F.\n"
+     "The writers of a cell are its own joined with these. Without an option it is told how many there are; --all shows\n"
+     "each by its line in the program's listing (desk listing). Cells without writers of their own are left out, but for\n"
+     "the level's digits. --cell asks the tables for one cell and shows what desk writers shows of it. desk patch\n"
+     "replaces a word and tells what changes.\n", NULL,
      work_xref},
     {"patch", "patch BOOK ADDRESS WORD OUT [--force]", "makes a book with another word at one address of the program",
      "ADDRESS is in hex, 000 to FFF. WORD has four hex digits, and need not be an instruction. OUT gets the new book,\n"
