@@ -1,8 +1,19 @@
-/* How second.c judges what a call is lent, for the calls that stand in other files. */
+/* How second.c judges what a call is lent, for the calls that stand in other files, and what all of them share. */
 #ifndef SECOND_JUDGING_H
 #define SECOND_JUDGING_H
 
 #include "second.h"
+
+static inline uint32_t answer(uint64_t *value, uint32_t number, uint64_t with)
+{
+    *value = with;
+    return number;
+}
+
+static inline uint16_t word_at(const uint8_t *program, size_t address)
+{
+    return (uint16_t)(program[2 * address] << 8 | program[2 * address + 1]);
+}
 
 /* 2 and 3; answers and *value as in the calls. */
 uint32_t second_judge_memory(const uint8_t *memory, size_t memory_len, uint64_t *value);

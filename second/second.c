@@ -578,11 +578,6 @@ bool second_execute(struct second_machine *machine, uint16_t word)
 
 /* ---- Events ---- */
 
-static uint16_t word_at(const uint8_t *program, size_t address)
-{
-    return (uint16_t)(program[2 * address] << 8 | program[2 * address + 1]);
-}
-
 static void take_interrupt(struct second_machine *m, unsigned requests)
 {
     push(m, m->pc);
@@ -801,12 +796,6 @@ bool second_is_well_formed(const struct second_machine *m)
 }
 
 /* ---- Refusals that several calls share ---- */
-
-static uint32_t answer(uint64_t *value, uint32_t number, uint64_t with)
-{
-    *value = with;
-    return number;
-}
 
 /* Most memories are good, so the lowest bad cell is looked for only once there is one. */
 uint32_t second_judge_memory(const uint8_t *memory, size_t memory_len, uint64_t *value)

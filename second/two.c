@@ -20,12 +20,6 @@ struct car {
     enum second_reason reason; /* SECOND_AT_END as long as it takes entries */
 };
 
-static uint32_t answer(uint64_t *value, uint32_t number, uint64_t with)
-{
-    *value = with;
-    return number;
-}
-
 /* ---- Judging ---- */
 
 /* 2, 3 and 4. A number is judged of both cars before the next one is. The machines are filled in on the way. */

@@ -9,17 +9,6 @@
 enum { DONE = 0, PROGRAM_LENGTH = 1, ROOM = 7, ASKED_CELL = 8, FIELD = 13, TABLES = 29 };
 enum { NO_ADDRESS = SECOND_WORDS };
 
-static uint32_t answer(uint64_t *value, uint32_t number, uint64_t with)
-{
-    *value = with;
-    return number;
-}
-
-static uint16_t word_at(const uint8_t *program, size_t address)
-{
-    return (uint16_t)(program[2 * address] << 8 | program[2 * address + 1]);
-}
-
 static void put_pair(uint8_t *at, unsigned number)
 {
     at[0] = (uint8_t)(number >> 8);
