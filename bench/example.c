@@ -19,7 +19,7 @@ static void read_example_program(uint8_t *program)
     if (galhoveia_book_read(book.at, book.length, &at, &length, &wiring, &wiring_length, &level, &level_length, &value))
         fail("%s is no good book (desk book check tells why)", example_book);
     memcpy(program, book.at + at, GALHOVEIA_PROGRAM_BYTES);
-    free(book.at);
+    give_back(book.at);
 }
 
 static void read_example_script(uint8_t *script, size_t events)
@@ -35,8 +35,8 @@ static void read_example_script(uint8_t *script, size_t events)
         fail("%s has no events", example_script);
     for (size_t at = 0; at < events; at++)
         script[at] = once.at[at % silent];
-    free(once.at);
-    free(text.at);
+    give_back(once.at);
+    give_back(text.at);
 }
 
 void example_dispatcher(uint8_t *program, uint8_t *script, size_t events)

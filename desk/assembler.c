@@ -248,9 +248,8 @@ static void read_line(struct assembler *as, const char *at)
 
 struct bytes program_from_text(const char *path, const char *text)
 {
-    struct mnemonics *known = learn_mnemonics();
     struct assembler as = {.path = path,
-                           .known = known,
+                           .known = chip_mnemonics(),
                            .names = take_memory(NAMES_MOST, sizeof *as.names),
                            .program = take_memory(GALHOVEIA_PROGRAM_BYTES, 1),
                            .filled = take_memory(GALHOVEIA_WORDS, sizeof *as.filled)};
@@ -269,8 +268,7 @@ struct bytes program_from_text(const char *path, const char *text)
             at += *at == '\n';
         }
     }
-    free(as.names);
-    free(as.filled);
-    free(known);
+    give_back(as.names);
+    give_back(as.filled);
     return (struct bytes){as.program, GALHOVEIA_PROGRAM_BYTES};
 }

@@ -57,7 +57,7 @@ static bool make_wave(const struct wishes *wishes, const struct run *run)
 
     if (faultless)
         write_wave(wishes->wave, &sound, wishes->rate, wishes->force);
-    free(sound.outputs);
+    give_back(sound.outputs);
     return faultless;
 }
 
@@ -123,9 +123,9 @@ static enum status work_run(const struct command *command, int count, char **wor
         if ((!level || watch_level(&wishes.watch, &book))
             && (cell == NULL || watch_cell(&wishes.watch, &book, cell_address, "")))
             status = run_and_fulfil(&run, stop, &wishes);
-        free(book.file.at);
+        give_back(book.file.at);
     }
-    free(run.events.at);
+    give_back(run.events.at);
     return status;
 }
 
@@ -142,7 +142,7 @@ static enum status work_level(const struct command *command, int count, char **w
     if (!read_book(others[0], &book))
         return REFUSED;
     done = show_level(stdout, &book, &state, others[1]);
-    free(book.file.at);
+    give_back(book.file.at);
     return done ? DONE : REFUSED;
 }
 
@@ -163,7 +163,7 @@ static enum status work_picture(const struct command *command, int count, char *
         return REFUSED;
     may_draw(&book, look);
     done = show_picture(&book, &state, others[1], look);
-    free(book.file.at);
+    give_back(book.file.at);
     return done ? DONE : REFUSED;
 }
 
@@ -183,7 +183,7 @@ static enum status work_writers(const struct command *command, int count, char *
     if (!read_book(others[0], &book))
         return REFUSED;
     done = level ? show_level_writers(&book) : show_writers(&book, cell, "");
-    free(book.file.at);
+    give_back(book.file.at);
     return done ? DONE : REFUSED;
 }
 
@@ -204,7 +204,7 @@ static enum status work_listing(const struct command *command, int count, char *
     if (!read_book(path[0], &book))
         return REFUSED;
     length = write_listing(book.program.at, text);
-    free(book.file.at);
+    give_back(book.file.at);
     if (out == NULL) {
         fwrite(text, 1, length, stdout);
         return DONE;
@@ -232,7 +232,7 @@ static enum status work_program(const struct command *command, int count, char *
         say_refusal(others[0], refusal, value);
     if (refusal == GALHOVEIA_LISTING)
         explain_listing(text, value);
-    free(text.at);
+    give_back(text.at);
     if (refusal != GALHOVEIA_DONE)
         return REFUSED;
     write_file(others[1], program, sizeof program, force);
@@ -250,7 +250,7 @@ static enum status work_book_check(const struct command *command, int count, cha
     if (!read_book(path[0], &book))
         return REFUSED;
     show_book(path[0], &book);
-    free(book.file.at);
+    give_back(book.file.at);
     return DONE;
 }
 
@@ -276,9 +276,9 @@ static enum status work_book_make(const struct command *command, int count, char
     wiring = read_body(others[2], wiring_from_text);
     level = read_body(others[3], level_from_text);
     done = write_book(others[0], program, wiring, level, force);
-    free(program.at);
-    free(wiring.at);
-    free(level.at);
+    give_back(program.at);
+    give_back(wiring.at);
+    give_back(level.at);
     return done ? DONE : REFUSED;
 }
 
@@ -308,7 +308,7 @@ static bool show_strokes(const struct run *run)
     else
         printf("heard %zu stroke%s%s\n", strokes, strokes == 1 ? "" : "s",
                strokes == 1 ? ": up" : strokes == 2 ? ": down" : "");
-    free(sound.outputs);
+    give_back(sound.outputs);
     return faultless;
 }
 
@@ -391,13 +391,13 @@ static enum status work_demo(const struct command *command, int count, char **wo
             printf("\n5. Two cars over this program, each with a chip of its own, by the script %s\n\n", two_cars_path);
             status = demo_two_cars(&book, two_cars);
         }
-        free(book.file.at);
+        give_back(book.file.at);
     }
-    free(script.at);
-    free(two_cars.at);
-    free(book_path);
-    free(script_path);
-    free(two_cars_path);
+    give_back(script.at);
+    give_back(two_cars.at);
+    give_back(book_path);
+    give_back(script_path);
+    give_back(two_cars_path);
     return status;
 }
 
@@ -530,6 +530,7 @@ static bool asks_for_help(const char *word)
 
 int main(int argc, char **argv)
 {
+    leave_no_parts();
     if (argc > 1 && (asks_for_help(argv[1]) || (argc == 3 && strcmp(argv[1], "book") == 0 && asks_for_help(argv[2])))) {
         print_overview(stdout);
         return finish(DONE);

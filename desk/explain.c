@@ -173,17 +173,14 @@ static void line_of(unsigned address, unsigned word, char line[GALHOVEIA_LINE_BY
 static void say_other_word(struct part text, unsigned word)
 {
     char asked[TEXT_ROOM];
-    struct mnemonics *known;
     uint16_t other;
 
     if (text.length >= sizeof asked || memchr(text.at, 0, text.length) != NULL)
         return;
     memcpy(asked, text.at, text.length);
     asked[text.length] = '\0';
-    known = learn_mnemonics();
-    if (word_of(known, asked, &other) && other != word)
+    if (word_of(chip_mnemonics(), asked, &other) && other != word)
         fprintf(stderr, "  %s is the word %04X\n", asked, other);
-    free(known);
 }
 
 static void say_items(struct part line, unsigned address)

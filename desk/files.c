@@ -4,51 +4,47 @@
 
 #include <errno.h>
 #include <fcntl.h>
+#include <limits.h>
+#include <signal.h>
 #include <stdio.h>
 #include <stdlib.h>
 #include <string.h>
 #include <sys/stat.h>
 #include <unistd.h>
 
-void *take_memory(size_t count, size_t size)
+/* Reads on until the file's end. Answers false where the file is too long; what cannot be read ends it too. */
+static bool read_all(FILE *file, size_t most, struct bytes *read)
 {
-    void *memory = calloc(count ? count : 1, size);
+    size_t room = 0, got;
 
-    if (memory == NULL)
-        fail("not enough memory");
-    return memory;
+    do {
+        if (read->length == room) {
+            room = room ? 2 * room : 16384;
+            read->at = more_memory(read->at, room + 1);
+        }
+        got = fread(read->at + read->length, 1, room - read->length, file);
+        read->length += got;
+    } while (got > 0 && read->length <= most);
+    return read->length <= most;
 }
 
 struct bytes read_file(const char *path, size_t most)
 {
-    struct bytes read = {NULL, 0};
-    size_t room = 0;
+    struct bytes read = {take_memory(1, 1), 0};
     FILE *file = fopen(path, "rb");
+    bool fits;
+    int why;
 
     if (file == NULL)
         fail("cannot read %s: %s", path, strerror(errno));
-    for (;;) {
-        size_t got;
-
-        if (read.length == room) {
-            uint8_t *more;
-
-            room = room ? 2 * room : 16384;
-            more = realloc(read.at, room + 1);
-            if (more == NULL)
-                fail("not enough memory for %s", path);
-            read.at = more;
-        }
-        got = fread(read.at + read.length, 1, room - read.length, file);
-        if (ferror(file))
-            fail("cannot read %s: %s", path, strerror(errno));
-        if (got == 0)
-            break;
-        read.length += got;
-        if (read.length > most)
-            fail("%s is too long: more than %zu bytes", path, most);
-    }
+    errno = 0;
+    fits = read_all(file, most, &read);
+    why = ferror(file) ? errno : 0;
     fclose(file);
+    if (why != 0)
+        fail("cannot read %s: %s", path, strerror(why));
+    if (!fits)
+        fail("%s is too long: more than %zu bytes", path, most);
     read.at[read.length] = 0;
     return read;
 }
@@ -64,7 +60,7 @@ static void may_make(const char *path)
     folder[before] = '.';
     if (access(folder, W_OK | X_OK) != 0)
         fail("cannot write %s: %s", path, strerror(errno));
-    free(folder);
+    give_back(folder);
 }
 
 void may_write(const char *path, bool force)
@@ -124,30 +120,96 @@ static bool write_all(int file, const uint8_t *bytes, size_t length)
     return true;
 }
 
+/* ---- A file beside the one to be written ---- */
+
+/* What a user or the system sends to end a command. */
+static const int ending_signals[] = {SIGINT, SIGTERM, SIGHUP};
+
+enum { ENDING_SIGNALS = sizeof ending_signals / sizeof ending_signals[0] };
+
+/* The file that is not finished; empty where there is none. */
+static char unfinished[PATH_MAX];
+
+static void remove_unfinished(int signal)
+{
+    if (unfinished[0] != '\0')
+        unlink(unfinished);
+    raise(signal); /* it takes the command away once this is left: the handler holds for one signal alone */
+}
+
+void leave_no_parts(void)
+{
+    const struct sigaction action = {.sa_handler = remove_unfinished, .sa_flags = (int)SA_RESETHAND};
+    struct sigaction before;
+
+    for (int at = 0; at < ENDING_SIGNALS; at++)
+        if (sigaction(ending_signals[at], NULL, &before) == 0 && before.sa_handler != SIG_IGN)
+            sigaction(ending_signals[at], &action, NULL);
+}
+
+/* Keeps these signals back while names of files change, so that `unfinished` is true whenever one comes. */
+static void hold_signals(bool hold)
+{
+    sigset_t set;
+
+    sigemptyset(&set);
+    for (int at = 0; at < ENDING_SIGNALS; at++)
+        sigaddset(&set, ending_signals[at]);
+    sigprocmask(hold ? SIG_BLOCK : SIG_UNBLOCK, &set, NULL);
+}
+
+/* Makes the file beside a path, under a name of its own, or answers -1. */
+static int begin_beside(const char *path)
+{
+    int file = -1;
+
+    errno = ENAMETOOLONG;
+    if (snprintf(unfinished, sizeof unfinished, "%s.part-XXXXXX", path) < (int)sizeof unfinished) {
+        hold_signals(true);
+        file = mkstemp(unfinished);
+    }
+    if (file < 0)
+        unfinished[0] = '\0';
+    hold_signals(false);
+    return file;
+}
+
+/* Gives the file its name, or removes it where it is not good. Answers whether it has its name. */
+static bool end_beside(const char *path, bool good, bool force)
+{
+    bool named = false;
+    int why;
+
+    hold_signals(true);
+    if (good)
+        named = force ? rename(unfinished, path) == 0 : name_new(unfinished, path);
+    why = errno;
+    if (!named)
+        unlink(unfinished);
+    unfinished[0] = '\0';
+    hold_signals(false);
+    errno = why;
+    return named;
+}
+
 void write_file(const char *path, const uint8_t *bytes, size_t length, bool force)
 {
-    static const char ending[] = ".part-XXXXXX";
-    char *beside = take_memory(strlen(path) + sizeof ending, 1);
     mode_t mask = umask(0);
     int file, why;
+    bool good;
 
     umask(mask);
     may_write(path, force);
-    strcpy(beside, path);
-    strcat(beside, ending);
-    file = mkstemp(beside);
+    file = begin_beside(path);
     if (file < 0)
         fail("cannot write %s: %s", path, strerror(errno));
-    if (!write_all(file, bytes, length) || fchmod(file, 0666 & ~mask) != 0 || fsync(file) != 0) {
+    good = write_all(file, bytes, length) && fchmod(file, 0666 & ~mask) == 0 && fsync(file) == 0;
+    why = errno;
+    if (close(file) != 0 && good) {
+        good = false;
         why = errno;
-        close(file);
-        unlink(beside);
-        fail("cannot write %s: %s", path, strerror(why));
     }
-    if (close(file) != 0 || !(force ? rename(beside, path) == 0 : name_new(beside, path))) {
-        why = errno;
-        unlink(beside);
-        fail("cannot write %s: %s", path, strerror(why));
-    }
-    free(beside);
+    errno = why;
+    if (!end_beside(path, good, force))
+        fail("cannot write %s: %s", path, strerror(errno));
 }

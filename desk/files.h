@@ -3,6 +3,7 @@
 #ifndef DESK_FILES_H
 #define DESK_FILES_H
 
+#include "attempt.h"
 #include "refusal.h"
 
 #include <stdbool.h>
@@ -17,10 +18,7 @@ struct bytes {
 /* The longest files that are read, in bytes. */
 enum { FILE_MOST = 1 << 20, SCRIPT_FILE_MOST = 1 << 30 };
 
-/* Memory for so many things, or the command ends. */
-void *take_memory(size_t count, size_t size);
-
-/* The caller frees what is read. A file of more than `most` bytes is wrong use; a 0 stands after the last byte, so
+/* The caller gives back what is read. A file of more than `most` bytes is wrong use; a 0 stands after the last byte, so
    that a text can be read as a string. */
 struct bytes read_file(const char *path, size_t most);
 
@@ -34,5 +32,8 @@ bool is_same_file(const char *one, const char *other);
 
 /* Writes beside the file first and then gives it its name, so that no half of it is ever seen under that name. */
 void write_file(const char *path, const uint8_t *bytes, size_t length, bool force);
+
+/* From here on a command that is ended from outside, as by ctrl-C, removes what it has written beside a file. */
+void leave_no_parts(void);
 
 #endif

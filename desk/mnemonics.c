@@ -54,9 +54,8 @@ static int by_text(const void *one, const void *other)
     return strcmp(((const struct instruction_line *)one)->text, ((const struct instruction_line *)other)->text);
 }
 
-struct mnemonics *learn_mnemonics(void)
+static void learn_mnemonics(struct mnemonics *known)
 {
-    struct mnemonics *known = take_memory(1, sizeof *known);
     struct lines lines;
 
     for (unsigned first = 0; first < WORDS_ALL; first += GALHOVEIA_WORDS) {
@@ -73,7 +72,15 @@ struct mnemonics *learn_mnemonics(void)
         }
     }
     qsort(known->line, known->lines, sizeof known->line[0], by_text);
-    return known;
+}
+
+const struct mnemonics *chip_mnemonics(void)
+{
+    static struct mnemonics known;
+
+    if (known.lines == 0)
+        learn_mnemonics(&known);
+    return &known;
 }
 
 bool word_of(const struct mnemonics *known, const char *text, uint16_t *word)

@@ -31,8 +31,8 @@ struct mnemonics {
     size_t lines;
 };
 
-/* The caller frees it. */
-struct mnemonics *learn_mnemonics(void);
+/* They are learned when first asked for. */
+const struct mnemonics *chip_mnemonics(void);
 
 /* NULL for an unknown mnemonic; capitals and small letters are one. */
 const struct form *form_named(const struct mnemonics *known, const char *name, size_t length);

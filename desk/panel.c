@@ -30,7 +30,7 @@ void read_state(const char *path, struct state *state)
              STATE_BYTES, GALHOVEIA_MEMORY_BYTES, GALHOVEIA_RECORD_BYTES);
     memcpy(state->memory, file.at, sizeof state->memory);
     memcpy(state->record, file.at + sizeof state->memory, sizeof state->record);
-    free(file.at);
+    give_back(file.at);
 }
 
 void write_state(const char *path, const struct state *state, bool force)
@@ -60,7 +60,7 @@ bool read_book(const char *path, struct book *book)
                                   &level_len, &value);
     if (refusal != GALHOVEIA_DONE) {
         say_refusal(path, refusal, value);
-        free(book->file.at);
+        give_back(book->file.at);
         return false;
     }
     book->program = (struct bytes){book->file.at + program, (size_t)program_len};
@@ -119,21 +119,31 @@ const char *cell_meaning(const struct book *book, uint32_t cell)
     return "";
 }
 
+uint32_t ask_level(const struct book *book, const struct state *state, struct level *level, uint64_t *value)
+{
+    int32_t stop = 0;
+    uint32_t refusal = galhoveia_level(state->memory, sizeof state->memory, book->level.at, book->level.length, &stop,
+                                       value);
+
+    level->stop = stop;
+    level->ground = book->level.at[4];
+    for (enum digit digit = HIGH; digit < DIGITS; digit++)
+        level->digit[digit] = state->memory[level_cell(book, digit)];
+    return refusal;
+}
+
 bool show_level(FILE *to, const struct book *book, const struct state *state, const char *state_name)
 {
-    int32_t level = 0;
+    struct level level;
     uint64_t value = 0;
-    uint32_t refusal = galhoveia_level(state->memory, sizeof state->memory, book->level.at, book->level.length, &level,
-                                       &value);
-    unsigned high, low;
+    uint32_t refusal = ask_level(book, state, &level, &value);
 
     if (refusal != GALHOVEIA_DONE) {
         say_refusal(state_name, refusal, value);
         return false;
     }
-    high = state->memory[level_cell(book, HIGH)];
-    low = state->memory[level_cell(book, LOW)];
-    fprintf(to, "level %ld  (digits %u,%u; ground code %u)\n", (long)level, high, low, book->level.at[4]);
+    fprintf(to, "level %ld  (digits %u,%u; ground code %u)\n", level.stop, level.digit[HIGH], level.digit[LOW],
+            level.ground);
     return true;
 }
 
@@ -171,13 +181,19 @@ bool show_picture(const struct book *book, const struct state *state, const char
     return true;
 }
 
-void show_registers(const struct state *state)
+const char *mode_words(const struct state *state)
 {
     static const char *const modes[] = {"running", "asleep in HALT", "asleep in STOP"};
+
+    return modes[state->record[GALHOVEIA_RECORD_MODE]];
+}
+
+void show_registers(const struct state *state)
+{
     const uint8_t *record = state->record;
 
     printf("PC $%03X, AC %u, CY %u, %s\n", two(record + GALHOVEIA_RECORD_PC), record[GALHOVEIA_RECORD_AC],
-           record[GALHOVEIA_RECORD_CY], modes[record[GALHOVEIA_RECORD_MODE]]);
+           record[GALHOVEIA_RECORD_CY], mode_words(state));
     printf("sound channel 1: output %u, count %u; channel 2: output %u, count %u\n", record[GALHOVEIA_RECORD_OUTPUT_1],
            two(record + GALHOVEIA_RECORD_COUNT_1), record[GALHOVEIA_RECORD_OUTPUT_2],
            two(record + GALHOVEIA_RECORD_COUNT_2));

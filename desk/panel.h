@@ -28,8 +28,8 @@ struct book {
     struct lines lines;                  /* the program's listing */
 };
 
-/* Each of these answers whether the library did it; a refusal is said, of `what` for a fresh machine. The caller frees
-   the book's file. */
+/* Each of these answers whether the library did it; a refusal is said, of `what` for a fresh machine. The caller gives
+   back the book's file. */
 bool read_book(const char *path, struct book *book);
 bool make_fresh(struct state *state, uint32_t options, const char *what);
 
@@ -73,6 +73,14 @@ struct picture {
 
 uint32_t ask_picture(const struct book *book, const struct state *state, struct picture *picture, uint64_t *value);
 
+/* The level that the panel stands at, and its two digits. Answers 0 or the refusal, which is not said. */
+struct level {
+    long stop;
+    unsigned digit[DIGITS], ground;
+};
+
+uint32_t ask_level(const struct book *book, const struct state *state, struct level *level, uint64_t *value);
+
 bool show_picture(const struct book *book, const struct state *state, const char *state_name, struct look look);
 bool show_level(FILE *to, const struct book *book, const struct state *state, const char *state_name);
 bool show_writers(const struct book *book, uint32_t cell, const char *meaning);
@@ -87,6 +95,9 @@ void show_writer(const struct book *book, unsigned address);
    each. */
 void show_head(uint32_t cell, const char *meaning, size_t count);
 void show_list(const struct book *book, const struct writers *writers);
+
+/* What the chip does in a state: running, asleep in HALT, asleep in STOP. */
+const char *mode_words(const struct state *state);
 
 void show_book(const char *path, const struct book *book);
 void show_registers(const struct state *state);

@@ -204,6 +204,6 @@ enum status work_patch(const struct command *command, int count, char **words)
         show_patch(&patch);
         done = write_book(others[3], patch.after.program, patch.after.wiring, patch.after.level, force);
     }
-    free(patch.before.file.at);
+    give_back(patch.before.file.at);
     return done ? DONE : REFUSED;
 }

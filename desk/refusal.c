@@ -1,83 +1,88 @@
 /* What keeps a command from its work, in words. */
 #include "refusal.h"
 
+#include "attempt.h"
 #include "galhoveia.h"
 
 #include <stdarg.h>
-#include <stdio.h>
 #include <stdlib.h>
 
-void say_refusal(const char *what, uint32_t number, uint64_t value)
+void describe_refusal(FILE *to, uint32_t number, uint64_t value)
 {
     unsigned long long with = value;
 
-    fflush(stdout);
-    fprintf(stderr, "desk: %s: refused by %lu, value %llu: ", what, (unsigned long)number, with);
+    fprintf(to, "refused by %lu, value %llu: ", (unsigned long)number, with);
     switch (number) {
     case GALHOVEIA_PROGRAM_LENGTH:
-        fprintf(stderr, "the program has %llu bytes, not %d", with, GALHOVEIA_PROGRAM_BYTES);
+        fprintf(to, "the program has %llu bytes, not %d", with, GALHOVEIA_PROGRAM_BYTES);
         break;
     case GALHOVEIA_MEMORY_LENGTH:
-        fprintf(stderr, "the memory has %llu bytes, not %d", with, GALHOVEIA_MEMORY_BYTES);
+        fprintf(to, "the memory has %llu bytes, not %d", with, GALHOVEIA_MEMORY_BYTES);
         break;
     case GALHOVEIA_MEMORY_CELL:
-        fprintf(stderr, "memory cell $%03llX holds what this cell cannot hold", with);
+        fprintf(to, "memory cell $%03llX holds what this cell cannot hold", with);
         break;
     case GALHOVEIA_RECORD:
-        fprintf(stderr, "the machine record is not well formed, or does not fit the memory");
+        fprintf(to, "the machine record is not well formed, or does not fit the memory");
         break;
     case GALHOVEIA_UNKNOWN_EVENT:
-        fprintf(stderr, "place %llu of the script, counted from 0, has an unknown event", with);
+        fprintf(to, "place %llu of the script, counted from 0, has an unknown event", with);
         break;
     case GALHOVEIA_UNLISTED_WORD:
-        fprintf(stderr, "the cycle would execute the word at $%03llX, which is no instruction", with);
+        fprintf(to, "the cycle would execute the word at $%03llX, which is no instruction", with);
         break;
     case GALHOVEIA_ROOM:
-        fprintf(stderr, "too little room, %llu bytes are needed", with);
+        fprintf(to, "too little room, %llu bytes are needed", with);
         break;
     case GALHOVEIA_ASKED_CELL:
-        fprintf(stderr, "$%03llX is no data cell ($020-$16F), display cell ($300-$348) or scan cell ($358-$36D)", with);
+        fprintf(to, "$%03llX is no data cell ($020-$16F), display cell ($300-$348) or scan cell ($358-$36D)", with);
         break;
     case GALHOVEIA_DIGIT:
-        fprintf(stderr, "the level's %s digit is above 7", value == 0 ? "high" : "low");
+        fprintf(to, "the level's %s digit is above 7", value == 0 ? "high" : "low");
         break;
     case GALHOVEIA_LENGTH:
-        fprintf(stderr, "the book's contents, its length, or the length of a body is wrong");
+        fprintf(to, "the book's contents, its length, or the length of a body is wrong");
         break;
     case GALHOVEIA_BODY:
         if (value == 2)
-            fprintf(stderr, "the wiring (kind 2) names a cell outside $300-$348 or a bit above 3");
+            fprintf(to, "the wiring (kind 2) names a cell outside $300-$348 or a bit above 3");
         else
-            fprintf(stderr, "the level body (kind %llu) names a cell that is no data, display or scan cell, the same "
-                            "cell twice, or a ground code above 63", with);
+            fprintf(to, "the level body (kind %llu) names a cell that is no data, display or scan cell, the same cell "
+                        "twice, or a ground code above 63", with);
         break;
     case GALHOVEIA_OPTIONS:
-        fprintf(stderr, "options are 0 to 7");
+        fprintf(to, "options are 0 to 7");
         break;
     case GALHOVEIA_FIELD:
-        fprintf(stderr, "program addresses are $000 to $%03X", GALHOVEIA_WORDS - 1);
+        fprintf(to, "program addresses are $000 to $%03X", GALHOVEIA_WORDS - 1);
         break;
     case GALHOVEIA_LISTING:
         if (value < GALHOVEIA_WORDS)
-            fprintf(stderr, "the text is no listing; the first line that is missing or not as it must be is line %llu "
-                            "of the file, counted from 1, that of address %03llX", with + 1, with);
+            fprintf(to, "the text is no listing; the first line that is missing or not as it must be is line %llu of "
+                        "the file, counted from 1, that of address %03llX", with + 1, with);
         else
-            fprintf(stderr, "the text is no listing; its %d lines are good, but more stands behind them",
-                    GALHOVEIA_WORDS);
+            fprintf(to, "the text is no listing; its %d lines are good, but more stands behind them", GALHOVEIA_WORDS);
         break;
     case GALHOVEIA_CAR:
-        fprintf(stderr, "place %llu of the script, counted from 0, has a car above 1", with);
+        fprintf(to, "place %llu of the script, counted from 0, has a car above 1", with);
         break;
     case GALHOVEIA_CUT_ENTRY:
-        fprintf(stderr, "the script ends behind the car at place %llu, counted from 0, with no event for it", with);
+        fprintf(to, "the script ends behind the car at place %llu, counted from 0, with no event for it", with);
         break;
     case GALHOVEIA_TABLES:
-        fprintf(stderr, "the tables are not the cross-reference of the program lent with them");
+        fprintf(to, "the tables are not the cross-reference of the program lent with them");
         break;
     default:
-        fprintf(stderr, "a reason this command does not know");
+        fprintf(to, "a reason this command does not know");
         break;
     }
+}
+
+void say_refusal(const char *what, uint32_t number, uint64_t value)
+{
+    fflush(stdout);
+    fprintf(stderr, "desk: %s: ", what);
+    describe_refusal(stderr, number, value);
     fprintf(stderr, "\n");
 }
 
@@ -96,7 +101,7 @@ _Noreturn void fail(const char *format, ...)
     va_start(arguments, format);
     say("", format, arguments);
     va_end(arguments);
-    exit(WRONG_USE);
+    give_up();
 }
 
 bool say_fault(const char *format, ...)

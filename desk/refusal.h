@@ -4,14 +4,18 @@
 
 #include <stdbool.h>
 #include <stdint.h>
+#include <stdio.h>
 
 /* How a command ends. */
 enum status { DONE = 0, REFUSED = 1, WRONG_USE = 2, FAULT = 3 };
 
-/* Says on standard error what was asked of which file, the number, the value and what they mean. */
+/* A refusal's number, its value and what they mean, as a part of a line. */
+void describe_refusal(FILE *to, uint32_t number, uint64_t value);
+
+/* Says on standard error what was asked of which file, and the refusal. */
 void say_refusal(const char *what, uint32_t number, uint64_t value);
 
-/* Says what is wrong and ends the command with WRONG_USE. */
+/* Says what is wrong and ends the innermost attempt (attempt.h), or the command with WRONG_USE. */
 _Noreturn void fail(const char *format, ...) __attribute__((format(printf, 1, 2)));
 
 /* Says what only a mistake in the library or in this command can bring about. Answers false: not without fault. */

@@ -1,27 +1,84 @@
 /* A script's events on a book's chip. */
 #include "run.h"
 
+#include "progress.h"
+
 #include <stdio.h>
+
+/* A long script is run part by part, so that there is progress to tell of. */
+enum { PART_EVENTS = 1 << 22, BYTES_ALL = 256 };
+
+/* ---- The library's run ---- */
+
+static uint32_t run_part(const struct run *run, struct bytes events, uint32_t stop, struct state *state,
+                         uint32_t *reason, uint64_t *done, uint64_t *value)
+{
+    const struct book *book = run->book;
+
+    return galhoveia_run(book->program.at, book->program.length, state->memory, sizeof state->memory, state->record,
+                         sizeof state->record, events.at, events.length, stop, reason, done, value);
+}
+
+/* Whether every byte of a script is an event, as the library answers of each byte to a chip just switched on. */
+static bool all_events_known(const struct run *run)
+{
+    bool met[BYTES_ALL] = {false};
+    struct state fresh;
+    uint64_t value;
+
+    for (size_t at = 0; at < run->events.length; at++)
+        met[run->events.at[at]] = true;
+    for (unsigned byte = 0; byte < BYTES_ALL; byte++)
+        if (met[byte] && (!make_fresh(&fresh, 0, "a fresh machine")
+                          || step_once(run->book, &fresh, (uint8_t)byte, &value) == GALHOVEIA_UNKNOWN_EVENT))
+            return false;
+    return true;
+}
+
+/* Part by part it is the same run, since the first part that stops is the last. A script with a byte that is no event
+   is refused whole, before anything moves, so it is lent whole. */
+uint32_t do_run(struct run *run, uint32_t stop, uint64_t *value)
+{
+    size_t most = run->events.length > PART_EVENTS && all_events_known(run) ? PART_EVENTS : run->events.length;
+    uint32_t refusal;
+
+    run->end = run->start;
+    run->reason = GALHOVEIA_AT_END;
+    run->done = 0;
+    *value = 0;
+    begin_progress("events done", run->events.length);
+    do {
+        size_t rest = run->events.length - (size_t)run->done;
+        const struct bytes part = {run->events.at + run->done, rest < most ? rest : most};
+        uint64_t done = 0;
+
+        refusal = run_part(run, part, stop, &run->end, &run->reason, &done, value);
+        run->done += done;
+        progress_at(run->done);
+    } while (refusal == GALHOVEIA_DONE && run->reason == GALHOVEIA_AT_END && run->done < run->events.length);
+    end_progress();
+    return refusal;
+}
+
+uint32_t step_once(const struct book *book, struct state *state, uint8_t event, uint64_t *value)
+{
+    return galhoveia_step(book->program.at, book->program.length, state->memory, sizeof state->memory, state->record,
+                          sizeof state->record, event, value);
+}
+
+/* ---- What is said of it ---- */
 
 uint32_t run_events(struct run *run, uint32_t stop)
 {
-    const struct book *book = run->book;
-    struct state *state = &run->end;
-    uint64_t value = 0;
-    uint32_t refusal;
+    uint64_t value;
+    uint32_t refusal = do_run(run, stop, &value);
 
-    *state = run->start;
-    run->reason = GALHOVEIA_AT_END;
-    run->done = 0;
-    refusal = galhoveia_run(book->program.at, book->program.length, state->memory, sizeof state->memory, state->record,
-                            sizeof state->record, run->events.at, run->events.length, stop, &run->reason, &run->done,
-                            &value);
     if (refusal != GALHOVEIA_DONE)
         say_refusal("the run", refusal, value);
     if (refusal != GALHOVEIA_DONE && refusal != GALHOVEIA_UNLISTED_WORD)
         return refusal;
     printf("%llu of %zu events done; ", (unsigned long long)run->done, run->events.length);
-    show_stop(run->reason, stop, state);
+    show_stop(run->reason, stop, &run->end);
     return refusal;
 }
 
@@ -34,10 +91,4 @@ void show_stop(uint32_t reason, uint32_t stop, const struct state *state)
     else
         printf("stopped at the script's end\n");
     show_registers(state);
-}
-
-uint32_t step_once(const struct book *book, struct state *state, uint8_t event, uint64_t *value)
-{
-    return galhoveia_step(book->program.at, book->program.length, state->memory, sizeof state->memory, state->record,
-                          sizeof state->record, event, value);
 }

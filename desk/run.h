@@ -13,8 +13,11 @@ struct run {
     struct state start, end;
 };
 
-/* Lets the run's events happen to the chip, from its start, and says how that ended. Answers 0 or the refusal, which is
-   said; a run before an unlisted word is refused, but what it did counts. */
+/* Lets the run's events happen to the chip, from its start. Answers 0 or the refusal, which is not said. */
+uint32_t do_run(struct run *run, uint32_t stop, uint64_t *value);
+
+/* The same, and says how that ended. The refusal is said; a run before an unlisted word is refused, but what it did
+   counts. */
 uint32_t run_events(struct run *run, uint32_t stop);
 
 /* Says why a run stopped, as the rest of a line, and what the registers then are. */

@@ -50,7 +50,7 @@ struct bytes read_text(const char *path, size_t most, struct bytes (*from_text)(
     if (memchr(file.at, 0, file.length) != NULL)
         fail("%s is no text", path);
     made = from_text(path, (const char *)file.at);
-    free(file.at);
+    give_back(file.at);
     return made;
 }
 
@@ -133,19 +133,22 @@ static bool is_word(const char *word, size_t length, const char *name)
     return strlen(name) == length && memcmp(word, name, length) == 0;
 }
 
+static const struct {
+    const char *name;
+    uint8_t event;
+} named[] = {{"cycle", GALHOVEIA_EVENT_CYCLE},
+             {"base", GALHOVEIA_EVENT_BASE},
+             {"watchdog", GALHOVEIA_EVENT_WATCHDOG},
+             {"reset", GALHOVEIA_EVENT_RESET},
+             {"sound", GALHOVEIA_EVENT_SOUND}};
+
+enum { NAMED = sizeof named / sizeof named[0] };
+
+static const char ports[] = "abcd";
+
 static bool event_from(const char *word, size_t length, uint8_t *event)
 {
-    static const struct {
-        const char *name;
-        uint8_t event;
-    } named[] = {{"cycle", GALHOVEIA_EVENT_CYCLE},
-                 {"base", GALHOVEIA_EVENT_BASE},
-                 {"watchdog", GALHOVEIA_EVENT_WATCHDOG},
-                 {"reset", GALHOVEIA_EVENT_RESET},
-                 {"sound", GALHOVEIA_EVENT_SOUND}};
-    static const char ports[] = "abcd";
-
-    for (size_t at = 0; at < sizeof named / sizeof named[0]; at++)
+    for (size_t at = 0; at < NAMED; at++)
         if (is_word(word, length, named[at].name)) {
             *event = named[at].event;
             return true;
@@ -159,6 +162,20 @@ static bool event_from(const char *word, size_t length, uint8_t *event)
         return true;
     }
     return false;
+}
+
+const char *event_word(uint8_t event, char word[EVENT_WORD_ROOM])
+{
+    unsigned port = (event - GALHOVEIA_EVENT_PINS_A) / 16u;
+
+    for (size_t at = 0; at < NAMED; at++)
+        if (named[at].event == event)
+            return named[at].name;
+    if (event >= GALHOVEIA_EVENT_PINS_A && port < strlen(ports))
+        snprintf(word, EVENT_WORD_ROOM, "%c=%X", ports[port], event % 16u);
+    else
+        snprintf(word, EVENT_WORD_ROOM, "$%02X", event);
+    return word;
 }
 
 /* A script that is being read, and the groups that are open in it: where each begins, in the script and in the text. In
@@ -215,15 +232,10 @@ static size_t times_of(const struct reader *reader, const char *part, size_t len
 
 static void make_room(struct growing *growing, size_t length)
 {
-    uint8_t *more;
-
     if (length <= growing->room)
         return;
     growing->room = 2 * length;
-    more = realloc(growing->script.at, growing->room);
-    if (more == NULL)
-        fail("not enough memory for the script");
-    growing->script.at = more;
+    growing->script.at = more_memory(growing->script.at, growing->room);
 }
 
 /* What the script has from `from` on stands there so many times. */

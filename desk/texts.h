@@ -18,6 +18,11 @@ struct bytes read_text(const char *path, size_t most, struct bytes (*from_text)(
 /* A script's bytes: the file itself where it is raw, else what its text comes to. */
 struct bytes read_script(const char *path, bool raw, struct bytes (*from_text)(const char *, const char *));
 
+/* The word of an event in a script, kept in `word` where it is not a name. */
+enum { EVENT_WORD_ROOM = 4 };
+
+const char *event_word(uint8_t event, char word[EVENT_WORD_ROOM]);
+
 /* A number as it is written in all of these: 18, $12 or 0x12. Answers whether the text, up to its end, is one that
    is at most `most`. */
 bool number_from(const char *text, size_t length, unsigned long long most, unsigned long long *number);

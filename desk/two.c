@@ -3,6 +3,7 @@
 #include "two.h"
 
 #include "drawing.h"
+#include "progress.h"
 #include "run.h"
 #include "texts.h"
 
@@ -56,13 +57,16 @@ static bool run_entries(struct two_cars *cars)
     const struct book *book = cars->book;
     struct car *first = &cars->car[0], *second = &cars->car[1];
     uint64_t value = 0;
-    uint32_t refusal = galhoveia_run_two(
+    uint32_t refusal;
+
+    begin_progress("running two cars", 0);
+    refusal = galhoveia_run_two(
         book->program.at, book->program.length, book->wiring.at, book->wiring.length, first->state.memory,
         sizeof first->state.memory, first->state.record, sizeof first->state.record, first->picture,
         sizeof first->picture, second->state.memory, sizeof second->state.memory, second->state.record,
         sizeof second->state.record, second->picture, sizeof second->picture, cars->script.at, cars->script.length,
         first->stop, second->stop, &first->reason, &second->reason, &cars->read, &value);
-
+    end_progress();
     if (refusal != GALHOVEIA_DONE)
         say_refused(cars, refusal, value);
     return refusal == GALHOVEIA_DONE;
@@ -150,8 +154,8 @@ enum status work_run_two(const struct command *command, int count, char **words)
         && start_from(command, &course[1], names[1].fresh, &cars.car[1].state) && read_book(others[0], &book)) {
         may_draw(&book, look);
         status = run_two_cars(&cars, look, force);
-        free(book.file.at);
+        give_back(book.file.at);
     }
-    free(cars.script.at);
+    give_back(cars.script.at);
     return status;
 }

@@ -1,14 +1,14 @@
 /* Cells watched while a script's events happen. */
 #include "watch.h"
 
+#include "moment.h"
+#include "progress.h"
+
 #include <stdio.h>
 #include <string.h>
 
 /* What an address is to a watched cell. */
 enum { NO_WRITER, NEVER_CHANGED, CHANGED };
-
-/* The interrupt flags. */
-enum { ENABLED = 0x000, REQUESTED = 0x001 };
 
 /* ---- What is watched ---- */
 
@@ -39,19 +39,13 @@ bool watch_level(struct watch *watch, const struct book *book)
 
 /* ---- A run's events, one by one ---- */
 
-/* A cycle of a running machine in which no enabled interrupt is requested: what the list of writers speaks of. */
-static bool executes(const struct state *before, uint8_t event)
-{
-    return event == GALHOVEIA_EVENT_CYCLE && before->record[GALHOVEIA_RECORD_MODE] == GALHOVEIA_RUNNING
-           && !(before->memory[ENABLED] & before->memory[REQUESTED]);
-}
-
 /* One change, by the instruction at which the machine stood. */
 static bool show_change(struct watched *watched, const struct book *book, uint64_t place, uint8_t event,
                         const struct state *before, const struct state *now)
 {
     unsigned address = two(before->record + GALHOVEIA_RECORD_PC);
 
+    clear_progress();
     printf("  event %llu: $%03lX %u -> %u  by  ", (unsigned long long)place, (unsigned long)watched->cell,
            before->memory[watched->cell], now->memory[watched->cell]);
     if (watched->writer[address] == NO_WRITER)
@@ -59,7 +53,7 @@ static bool show_change(struct watched *watched, const struct book *book, uint64
     else
         show_writer(book, address);
     watched->changes++;
-    if (!executes(before, event))
+    if (work_of(event, before, now) != EXECUTES)
         return say_fault("event %llu executes no instruction and changed cell $%03lX", (unsigned long long)place,
                          (unsigned long)watched->cell);
     if (watched->writer[address] == NO_WRITER)
@@ -100,6 +94,7 @@ static bool step_through(struct watch *watch, const struct run *run)
         uint64_t value = 0;
         uint32_t refusal = step_once(run->book, &now, event, &value);
 
+        progress_at(place);
         if (refusal != GALHOVEIA_DONE) {
             say_refusal("a single step", refusal, value);
             return say_fault("event %llu was done by the run", (unsigned long long)place);
@@ -121,7 +116,9 @@ bool show_changes(struct watch *watch, const struct run *run)
     bool faultless;
 
     printf("changes, with events counted from 0:\n");
+    begin_progress("events looked at", run->done);
     faultless = step_through(watch, run);
+    end_progress();
     for (size_t at = 0; at < watch->count; at++)
         show_writers_seen(&watch->cells[at], run->book);
     return faultless || ask_report();

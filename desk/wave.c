@@ -1,6 +1,8 @@
 /* What the two sound channels put out. */
 #include "wave.h"
 
+#include "progress.h"
+
 #include <stdio.h>
 #include <stdlib.h>
 #include <string.h>
@@ -49,6 +51,7 @@ static uint32_t listen(struct sound *sound, const struct run *run, struct state 
         }
         if (refusal != GALHOVEIA_DONE)
             return refusal;
+        progress_at(at);
     }
     return GALHOVEIA_DONE;
 }
@@ -70,7 +73,9 @@ bool hear(struct sound *sound, const struct run *run)
 
     *sound = (struct sound){take_memory(clocks_in(run) + 1, 1), 0};
     sound->outputs[0] = outputs_of(&now);
+    begin_progress("events heard", run->done);
     refusal = listen(sound, run, &now, &value);
+    end_progress();
     if (refusal == GALHOVEIA_DONE && memcmp(&now, &run->end, sizeof now) == 0)
         return true;
     if (refusal != GALHOVEIA_DONE)
@@ -140,7 +145,7 @@ void write_wave(const char *path, const struct sound *sound, uint32_t rate, bool
         to = give_number(to, sound->outputs[clock] & RIGHT ? LEVEL : 0, SAMPLE_BITS / 8);
     }
     write_file(path, file, length, force);
-    free(file);
+    give_back(file);
     if (sound->clocks == 0)
         printf("%s: no sound clock was done, so there is nothing to hear\n", path);
     else

@@ -9,7 +9,7 @@
 enum { RATE_USUAL = 32768, RATE_FAST = 112500 };
 
 /* outputs[0] is what stands before the first clock, outputs[n] what stands after clock n: bit 0 channel 1, bit 1
-   channel 2. The caller frees them. */
+   channel 2. The caller gives them back. */
 struct sound {
     uint8_t *outputs;
     size_t clocks;

@@ -145,6 +145,6 @@ enum status work_xref(const struct command *command, int count, char **words)
         done = show_cell(&xref, asked);
     else
         show_all(&xref, all);
-    free(book.file.at);
+    give_back(book.file.at);
     return done ? DONE : REFUSED;
 }

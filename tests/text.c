@@ -109,7 +109,7 @@ static void one_word(unsigned address, unsigned word, const char *line, char sou
 /* What the desk has learned: these mnemonics and no others, and of each what it takes. */
 static void all_forms(void)
 {
-    struct mnemonics *known = learn_mnemonics();
+    const struct mnemonics *known = chip_mnemonics();
     static const struct {
         int count;
         struct operand operand[OPERANDS_MOST];
@@ -135,7 +135,6 @@ static void all_forms(void)
         }
     }
     check(form_named(known, "DATA", 4) == NULL, 0, "a mnemonic", "DATA");
-    free(known);
 }
 
 int main(void)
@@ -160,7 +159,7 @@ int main(void)
             check((unsigned)(made[0] << 8 | made[1]) == first + address, first + address, "assembled again",
                   lines.at[address]);
         }
-        free(program.at);
+        give_back(program.at);
     }
     printf("%lu passed, %lu failed\n", passed, failed);
     return failed == 0 ? EXIT_SUCCESS : EXIT_FAILURE;

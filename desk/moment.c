@@ -1,0 +1,67 @@
+/* One event, seen. */
+#include "moment.h"
+
+#include "texts.h"
+
+/* The interrupt flags. */
+enum { ENABLED = 0x000, REQUESTED = 0x001 };
+
+enum { PORTS = 4 };
+
+/* A cycle that finds the chip asleep wakes it to take an interrupt, and for nothing else. */
+enum work work_of(uint8_t event, const struct state *before, const struct state *after)
+{
+    if (event != GALHOVEIA_EVENT_CYCLE)
+        return HAPPENS;
+    if (before->record[GALHOVEIA_RECORD_MODE] == GALHOVEIA_RUNNING)
+        return before->memory[ENABLED] & before->memory[REQUESTED] ? INTERRUPTS : EXECUTES;
+    return after->record[GALHOVEIA_RECORD_MODE] == GALHOVEIA_RUNNING ? INTERRUPTS : SLEEPS;
+}
+
+/* ---- A line ---- */
+
+void show_moments_head(FILE *to)
+{
+    fprintf(to, "   event  what      PC  word instruction   AC CY mode     changes, before -> after\n");
+}
+
+static void show_work(FILE *to, const struct moment *moment)
+{
+    switch (work_of(moment->event, &moment->before, &moment->after)) {
+    case INTERRUPTS:
+        fprintf(to, "  interrupt to $%03X", two(moment->after.record + GALHOVEIA_RECORD_PC));
+        break;
+    case SLEEPS:
+        fprintf(to, "  asleep");
+        break;
+    default:
+        break;
+    }
+}
+
+static void show_differences(FILE *to, const struct moment *moment)
+{
+    const uint8_t *pins_before = moment->before.record + GALHOVEIA_RECORD_PINS;
+    const uint8_t *pins_after = moment->after.record + GALHOVEIA_RECORD_PINS;
+
+    for (unsigned cell = 0; cell < GALHOVEIA_MEMORY_BYTES; cell++)
+        if (moment->before.memory[cell] != moment->after.memory[cell])
+            fprintf(to, "  $%03X %X -> %X", cell, moment->before.memory[cell], moment->after.memory[cell]);
+    for (int port = 0; port < PORTS; port++)
+        if (pins_before[port] != pins_after[port])
+            fprintf(to, "  pins %c %X -> %X", 'A' + port, pins_before[port], pins_after[port]);
+}
+
+void show_moment(FILE *to, const struct book *book, const struct moment *moment)
+{
+    static const char *const modes[] = {"running", "HALT", "STOP"};
+    const uint8_t *record = moment->after.record;
+    char word[EVENT_WORD_ROOM];
+
+    fprintf(to, "%8llu  %-8s  %-20s %X  %u  %-7s", (unsigned long long)moment->place, event_word(moment->event, word),
+            book->lines.at[two(moment->before.record + GALHOVEIA_RECORD_PC)], record[GALHOVEIA_RECORD_AC],
+            record[GALHOVEIA_RECORD_CY], modes[record[GALHOVEIA_RECORD_MODE]]);
+    show_work(to, moment);
+    show_differences(to, moment);
+    fprintf(to, "\n");
+}

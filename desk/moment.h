@@ -1,0 +1,25 @@
+/* One event, seen: what it was, where the chip stood, and what it changed. */
+#ifndef DESK_MOMENT_H
+#define DESK_MOMENT_H
+
+#include "run.h"
+
+/* What an event comes to: a cycle executes the instruction at PC, or takes an enabled interrupt that is requested, or
+   passes asleep; any other event is its own work. */
+enum work { EXECUTES, INTERRUPTS, SLEEPS, HAPPENS };
+
+enum work work_of(uint8_t event, const struct state *before, const struct state *after);
+
+struct moment {
+    uint64_t place; /* of the event, counted from 0 */
+    uint8_t event;
+    struct state before, after;
+};
+
+/* A line for a moment: the event's number and word; the listing's line at PC as it was before; AC, CY and mode after it;
+   what a cycle came to where it did not execute that line; and each cell and pin that was changed, before and after. And
+   a line that heads them. */
+void show_moments_head(FILE *to);
+void show_moment(FILE *to, const struct book *book, const struct moment *moment);
+
+#endif
