@@ -163,11 +163,10 @@ static int begin_beside(const char *path)
 {
     int file = -1;
 
+    hold_signals(true);
     errno = ENAMETOOLONG;
-    if (snprintf(unfinished, sizeof unfinished, "%s.part-XXXXXX", path) < (int)sizeof unfinished) {
-        hold_signals(true);
+    if (snprintf(unfinished, sizeof unfinished, "%s.part-XXXXXX", path) < (int)sizeof unfinished)
         file = mkstemp(unfinished);
-    }
     if (file < 0)
         unfinished[0] = '\0';
     hold_signals(false);
