@@ -55,8 +55,9 @@ CRATES = crates.txt $(wildcard crates/*/src/*.rt)
 SECOND = second/second.c second/two.c second/search.c second/instruction.c second/listing.c second/xref.c
 DESK = $(wildcard desk/*.c)
 COMPARE = $(wildcard tests/compare*.c) tests/support.c tests/lending.c tests/counting.c tests/machines.c tests/forms.c
-TEXT = tests/text.c desk/assembler.c desk/attempt.c desk/files.c desk/listing.c desk/mnemonics.c desk/refusal.c desk/texts.c
-BENCH = $(wildcard bench/*.c) desk/attempt.c desk/files.c desk/refusal.c desk/texts.c
+TEXT = tests/text.c desk/assembler.c desk/attempt.c desk/files.c desk/listing.c desk/mnemonics.c desk/progress.c \
+    desk/refusal.c desk/texts.c
+BENCH = $(wildcard bench/*.c) desk/attempt.c desk/files.c desk/progress.c desk/refusal.c desk/texts.c
 STACK = $(patsubst %.c,build/native/objects/%.o,tests/stack.c tests/counting.c tests/machines.c)
 TRIALS = tests/trials.c tests/counting.c tests/machines.c tests/forms.c
 HEADERS = $(wildcard bench/*.h desk/*.h tests/*.h second/*.h)

@@ -1,8 +1,6 @@
 /* Work that may fail. */
 #include "attempt.h"
 
-#include "refusal.h"
-
 #include <setjmp.h>
 #include <stdint.h>
 #include <stdlib.h>
@@ -75,7 +73,14 @@ void give_back(void *memory)
 
 /* ---- Attempts ---- */
 
-static jmp_buf *innermost;
+static jmp_buf *innermost, *outermost;
+
+/* Gives back what was taken since so many pieces had been. */
+static void give_back_since(uint64_t before)
+{
+    while (newest != NULL && newest->is.number > before)
+        give_back(newest + 1);
+}
 
 bool attempt(void (*work)(void *with), void *with)
 {
@@ -89,8 +94,7 @@ bool attempt(void (*work)(void *with), void *with)
         work(with);
         done = true;
     } else {
-        while (newest != NULL && newest->is.number > before)
-            give_back(newest + 1);
+        give_back_since(before);
     }
     innermost = outer;
     return done;
@@ -100,5 +104,30 @@ _Noreturn void give_up(void)
 {
     if (innermost != NULL)
         longjmp(*innermost, 1);
-    exit(WRONG_USE);
+    end_command(WRONG_USE);
+}
+
+/* ---- Commands ---- */
+
+static enum status ended_with;
+
+enum status whole_command(enum status (*work)(void *with), void *with)
+{
+    jmp_buf here;
+
+    if (setjmp(here) == 0) {
+        outermost = &here;
+        ended_with = work(with);
+    }
+    innermost = outermost = NULL;
+    give_back_since(0);
+    return ended_with;
+}
+
+_Noreturn void end_command(enum status status)
+{
+    if (outermost == NULL)
+        exit(status);
+    ended_with = status;
+    longjmp(*outermost, 1);
 }

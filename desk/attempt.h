@@ -2,6 +2,8 @@
 #ifndef DESK_ATTEMPT_H
 #define DESK_ATTEMPT_H
 
+#include "refusal.h"
+
 #include <stdbool.h>
 #include <stddef.h>
 
@@ -11,6 +13,13 @@ bool attempt(void (*work)(void *with), void *with);
 
 /* Ends the innermost attempt, or, where there is none, the command with the status of wrong use. */
 _Noreturn void give_up(void);
+
+/* Does a whole command's work, and answers how it ended: what the work answers, or what end_command says from anywhere
+   in it. */
+enum status whole_command(enum status (*work)(void *with), void *with);
+
+/* Ends the command, where there is none the program. */
+_Noreturn void end_command(enum status status);
 
 /* Memory for so many things, all 0, or the work fails. It is freed by give_back alone, which also takes NULL. */
 void *take_memory(size_t count, size_t size);

@@ -4,7 +4,6 @@
 #include "texts.h"
 
 #include <stdio.h>
-#include <stdlib.h>
 #include <string.h>
 
 _Noreturn void wrong_use(const struct command *command, const char *what, const char *word)
@@ -12,7 +11,7 @@ _Noreturn void wrong_use(const struct command *command, const char *what, const 
     fflush(stdout);
     fprintf(stderr, "desk %s: %s%s%s\nusage: desk %s\ndesk %s --help tells more\n", command->name, what,
             word ? " " : "", word ? word : "", command->usage, command->name);
-    exit(WRONG_USE);
+    end_command(WRONG_USE);
 }
 
 void take_words(const struct command *command, int count, char **words, const struct option *options,

@@ -3,7 +3,6 @@
 
 #include "drawing.h"
 
-#include <stdlib.h>
 #include <string.h>
 
 enum { STATE_BYTES = GALHOVEIA_MEMORY_BYTES + GALHOVEIA_RECORD_BYTES, NOP = 0xFFFF };

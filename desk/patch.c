@@ -4,7 +4,6 @@
 #include "xref.h"
 
 #include <stdio.h>
-#include <stdlib.h>
 #include <string.h>
 
 /* A book before and after, each with the cross-reference of its program. */

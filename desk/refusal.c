@@ -3,9 +3,9 @@
 
 #include "attempt.h"
 #include "galhoveia.h"
+#include "progress.h"
 
 #include <stdarg.h>
-#include <stdlib.h>
 
 void describe_refusal(FILE *to, uint32_t number, uint64_t value)
 {
@@ -89,6 +89,7 @@ void say_refusal(const char *what, uint32_t number, uint64_t value)
 static void say(const char *kind, const char *format, va_list arguments)
 {
     fflush(stdout);
+    clear_progress();
     fprintf(stderr, "desk: %s", kind);
     vfprintf(stderr, format, arguments);
     fprintf(stderr, "\n");
@@ -98,6 +99,7 @@ _Noreturn void fail(const char *format, ...)
 {
     va_list arguments;
 
+    end_progress();
     va_start(arguments, format);
     say("", format, arguments);
     va_end(arguments);
@@ -127,5 +129,5 @@ _Noreturn void end_in_fault(const char *format, ...)
     say("FAULT: ", format, arguments);
     va_end(arguments);
     ask_report();
-    exit(FAULT);
+    end_command(FAULT);
 }

@@ -2,9 +2,9 @@
 #include "texts.h"
 
 #include "galhoveia.h"
+#include "progress.h"
 
 #include <ctype.h>
-#include <stdlib.h>
 #include <string.h>
 
 static int digit_of(char letter)
@@ -56,7 +56,12 @@ struct bytes read_text(const char *path, size_t most, struct bytes (*from_text)(
 
 struct bytes read_script(const char *path, bool raw, struct bytes (*from_text)(const char *, const char *))
 {
-    return raw ? read_file(path, SCRIPT_FILE_MOST) : read_text(path, SCRIPT_FILE_MOST, from_text);
+    struct bytes script;
+
+    begin_progress("reading the script", 0);
+    script = raw ? read_file(path, SCRIPT_FILE_MOST) : read_text(path, SCRIPT_FILE_MOST, from_text);
+    end_progress();
+    return script;
 }
 
 /* ---- Reading words and lines ---- */

@@ -4,7 +4,6 @@
 #include "progress.h"
 
 #include <stdio.h>
-#include <stdlib.h>
 #include <string.h>
 
 enum { CHANNELS = 2, LEFT = 1, RIGHT = 2 };

@@ -2,7 +2,6 @@
 #include "xref.h"
 
 #include <stdio.h>
-#include <stdlib.h>
 
 const struct kind kinds[KINDS] = {{"data", 0x020, 0x16F}, {"display", 0x300, 0x348}, {"scan", 0x358, 0x36D}};
 
