@@ -113,6 +113,7 @@ static enum status ended_with;
 
 enum status whole_command(enum status (*work)(void *with), void *with)
 {
+    const uint64_t before = taken;
     jmp_buf here;
 
     if (setjmp(here) == 0) {
@@ -120,7 +121,7 @@ enum status whole_command(enum status (*work)(void *with), void *with)
         ended_with = work(with);
     }
     innermost = outermost = NULL;
-    give_back_since(0);
+    give_back_since(before);
     return ended_with;
 }
 
