@@ -3,6 +3,8 @@
 #ifndef TESTS_SUPPORT_H
 #define TESTS_SUPPORT_H
 
+#include "chance.h"
+
 #include <stdbool.h>
 #include <stddef.h>
 #include <stdint.h>
@@ -36,12 +38,6 @@ void check(bool holds, const char *format, ...) __attribute__((format(printf, 2,
 
 /* A line that is seen at once, so that a long test shows that it moves. */
 void progress(const char *format, ...) __attribute__((format(printf, 1, 2)));
-
-/* ---- Chance ---- */
-
-void seed_random(uint64_t seed);
-uint64_t any_64(void);
-uint32_t any(uint32_t below);
 
 /* ---- Machines and programs ---- */
 
