@@ -6,6 +6,8 @@
 #   make bench           speed beside the second emulator, natively; make bench BEFORE=old/libhost.a also beside an
 #                        earlier library, an archive or object for this processor
 #   make stack           how many bytes of stack each call takes, natively; with BEFORE= also in an earlier library
+#   make install         puts the desk, the header, the archive, galhoveia.pc, the manual pages and the examples below
+#                        PREFIX (/usr/local), in a package's folder DESTDIR if that is given; make uninstall removes them
 CC = gcc
 CXX = g++
 STRICT = -Wall -Wextra -pedantic
@@ -34,7 +36,7 @@ LIB = target/staticlib/libhost.a
 ifeq ($(shell uname -m),x86_64)
 LINKED_CC = $(CC)
 LINKED_CXX = $(CXX)
-LINK = $(CC) -o $@ $^
+LINK_TO = $(CC) -o
 SANITIZED_LIB = $(LIB)
 BENCH_LIB = $(LIB)
 # The stack that the header tells of is read off x86-64 code.
@@ -46,10 +48,11 @@ FOREIGN = --target=x86_64-linux-gnu -fPIE -isystem $(shell $(CC) -print-file-nam
     -isystem /usr/include/$(shell $(CC) -print-multiarch) -isystem /usr/include
 LINKED_CC = $(KIT)/bin/clang $(FOREIGN)
 LINKED_CXX = $(KIT)/bin/clang --driver-mode=g++ $(FOREIGN)
-LINK = tests/link-foreign.sh $(KIT) $@ $^
+LINK_TO = tests/link-foreign.sh $(KIT)
 SANITIZED_LIB = build/sanitized/libstandin.a
 BENCH_LIB = build/bench/host.o
 endif
+LINK = $(LINK_TO) $@ $^
 
 CRATES = crates.txt $(wildcard crates/*/src/*.rt)
 SECOND = second/second.c second/two.c second/search.c second/instruction.c second/listing.c second/xref.c
@@ -59,6 +62,7 @@ TEXT = tests/text.c desk/assembler.c desk/attempt.c desk/files.c desk/listing.c 
     desk/refusal.c desk/texts.c
 BENCH = $(wildcard bench/*.c) desk/attempt.c desk/files.c desk/progress.c desk/refusal.c desk/texts.c
 STACK = $(patsubst %.c,build/native/objects/%.o,tests/stack.c tests/counting.c tests/machines.c)
+FUZZ = $(wildcard tests/fuzz*.c) tests/counting.c $(filter-out desk/main.c,$(DESK))
 TRIALS = tests/trials.c tests/counting.c tests/machines.c tests/forms.c
 HEADERS = $(wildcard bench/*.h desk/*.h tests/*.h second/*.h)
 
@@ -180,6 +184,9 @@ build/sanitized/compare: $(patsubst %.c,build/sanitized/objects/%.o,$(COMPARE) $
 build/sanitized/text: $(patsubst %.c,build/sanitized/objects/%.o,$(TEXT) second/instruction.c) $(SANITIZED_LIB)
 	$(CC) $(SANITIZE) -o $@ $^
 
+build/sanitized/fuzz: $(FUZZ:%.c=build/sanitized/objects/%.o) $(SANITIZED_LIB)
+	$(CC) $(SANITIZE) -o $@ $^
+
 # ---- Tests ----
 
 # Desks with a fault in them, which they must find.
@@ -189,6 +196,7 @@ test: build/plain/header build/plain/header-cpp build/plain/desk build/plain/com
     build/native/trials $(STACK) $(FAULTY_DESKS)
 	@tests/all.sh tests/newcomer.sh "tests/header.sh $(CC) $(CXX)" build/plain/header build/plain/header-cpp \
 	    build/plain/text "tests/desk.sh build/plain/desk $(FAULTY_DESKS)" $(STACK_TEST) \
+	    "tests/install.sh '$(LINKED_CC)' '$(LINKED_CXX)' '$(LINK_TO)' $(LIB)" \
 	    "build/native/trials build/trials" \
 	    "tests/beside.sh 'build/plain/compare calls --trials build/trials' 'build/plain/compare runs --book $(BOOK) --events $(EVENTS)'"
 
@@ -200,6 +208,24 @@ test-sanitized: build/sanitized/desk build/sanitized/compare build/sanitized/tex
 	    "build/native/trials build/trials" \
 	    "tests/clean.sh build/sanitized/compare calls --trials build/trials --machines 2 --cell-stride 200 --text-stride 10 --xref-stride 20" \
 	    "tests/clean.sh build/sanitized/compare runs --book $(BOOK) --events $(SANITIZED_EVENTS) --cell-stride 20"
+
+# ---- Installing ----
+
+PREFIX = /usr/local
+
+build/man/desk.1: build/plain/desk
+	@mkdir -p $(dir $@)
+	build/plain/desk manual >$@.new && mv $@.new $@
+
+build/man/galhoveia.3: desk/manual.awk desk/galhoveia.h
+	@mkdir -p $(dir $@)
+	awk -f desk/manual.awk desk/galhoveia.h >$@.new && mv $@.new $@
+
+install: build/plain/desk $(LIB) build/man/desk.1 build/man/galhoveia.3
+	@desk/install.sh install '$(PREFIX)' '$(DESTDIR)' $(LIB)
+
+uninstall:
+	@desk/install.sh uninstall '$(PREFIX)' '$(DESTDIR)' $(LIB)
 
 wrong:
 	@tests/wrong.sh $(CRATE)
@@ -215,5 +241,5 @@ stack: $(STACK) $(BENCH_LIB)
 clean:
 	rm -rf build
 
-.PHONY: all archive desk demo test test-sanitized wrong bench build/bench/measure stack asked clean
+.PHONY: all archive desk demo test test-sanitized install uninstall wrong bench build/bench/measure stack asked clean
 .SECONDARY:

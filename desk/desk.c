@@ -5,6 +5,7 @@
 #include "demo.h"
 #include "drawing.h"
 #include "explain.h"
+#include "manual.h"
 #include "patch.h"
 #include "texts.h"
 #include "two.h"
@@ -292,6 +293,8 @@ static const char *const make_texts[] = {program_help, wiring_help, level_help, 
 
 #define STATE_HELP "A state file is the memory (1,024 bytes), then the record (45 bytes).\n"
 
+static enum status work_manual(const struct command *command, int count, char **words);
+
 static const struct command commands[] = {
     {"demo", "demo [FOLDER]", "runs the example dispatcher and shows what the desk can do",
      "FOLDER holds dispatcher.book, dispatcher.script and science-block.script; it is examples if not given.\n", NULL,
@@ -358,20 +361,27 @@ static const struct command commands[] = {
     {"book make", "book make BOOK PROGRAM WIRING LEVEL [--force]", "makes a book of its three bodies",
      "Each body is a text as below, or, where the file's name ends in .bin, the body's bytes.\n", make_texts,
      work_book_make},
+    {"manual", "manual", "writes the manual page desk(1), in roff",
+     "All that the help of the commands says, as man shows it: desk manual >desk.1 && man ./desk.1\n", NULL,
+     work_manual},
 };
 
 enum { COMMANDS = sizeof commands / sizeof commands[0] };
+
+/* What holds for all commands. */
+static const char closing[] =
+    "No file is written over unless --force is given.\n"
+    "Exit status: 0 done; 1 refused by the library, which is said with its number and value; 2 wrong use,\n"
+    "or a file that cannot be read, is in the way, or is not what it should be; 3 a fault of the library,\n"
+    "which a watched run, a run that is heard, the demo, a patch and whatever takes a listing's lines or a\n"
+    "cross-reference look for.\n";
 
 static void print_overview(FILE *to)
 {
     fprintf(to, "desk works on panel books of the SH67P54. Its commands:\n\n");
     for (int at = 0; at < COMMANDS; at++)
         fprintf(to, "  desk %s\n      %s\n", commands[at].usage, commands[at].about);
-    fprintf(to, "\ndesk COMMAND --help tells more of one. No file is written over unless --force is given.\n"
-                "Exit status: 0 done; 1 refused by the library, which is said with its number and value; 2 wrong use,\n"
-                "or a file that cannot be read, is in the way, or is not what it should be; 3 a fault of the library,\n"
-                "which a watched run, a run that is heard, the demo, a patch and whatever takes a listing's lines or a\n"
-                "cross-reference look for.\n");
+    fprintf(to, "\ndesk COMMAND --help tells more of one, desk --version which desk it is.\n%s", closing);
 }
 
 static void print_help(const struct command *command)
@@ -381,6 +391,15 @@ static void print_help(const struct command *command)
         printf("%s", command->help);
     for (int at = 0; command->texts != NULL && command->texts[at] != NULL; at++)
         printf("\n%s", command->texts[at]);
+}
+
+static enum status work_manual(const struct command *command, int count, char **words)
+{
+    const struct option known[] = {{NULL, NULL, NULL}};
+
+    take_words(command, count, words, known, NULL, 0);
+    print_manual(commands, COMMANDS, closing);
+    return DONE;
 }
 
 /* Answers how many words of the command line the command's name takes, 0 if they do not name it. */
@@ -423,6 +442,10 @@ static enum status work_line(void *with)
 
     if (argc > 1 && (asks_for_help(argv[1]) || (argc == 3 && strcmp(argv[1], "book") == 0 && asks_for_help(argv[2])))) {
         print_overview(stdout);
+        return DONE;
+    }
+    if (argc == 2 && strcmp(argv[1], "--version") == 0) {
+        printf("desk, galhoveia " GALHOVEIA_VERSION "\n");
         return DONE;
     }
     for (int at = 0; at < COMMANDS; at++) {

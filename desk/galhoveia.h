@@ -1,8 +1,9 @@
 /* Galhoveia: a proved emulator of the 4-bit controller SH67P54, for C and C++.
 
-   Link with target/staticlib/libhost.a (x86-64 code), which `make archive` builds. The library keeps nothing between
-   calls: the chip's program, its memory and its registers stay with the caller and are lent to each call as bytes,
-   the tables of a cross-reference as numbers.
+   Once installed (make install), pkg-config tells how to compile and link with it: cc program.c $(pkg-config --cflags
+   --libs galhoveia). In the repository the archive is target/staticlib/libhost.a (x86-64 code), which `make archive`
+   builds. The library keeps nothing between calls: the chip's program, its memory and its registers stay with the
+   caller and are lent to each call as bytes, the tables of a cross-reference as numbers.
 
      program   8,192 bytes: 4,096 words of 16 bits, high byte first; word n is at bytes 2n and 2n + 1
      memory    1,024 bytes: one nibble of the chip's RAM in each, at the chip's own addresses $000 to $3FF
@@ -19,7 +20,8 @@
 
    What the caller must keep:
      - A pointer is valid for the length given beside it; an out pointer (uint64_t *value and the like) is valid for
-       one number of its type. Out pointers and tables are aligned for their numbers. Not even a length of 0 or a refusal makes a null pointer right.
+       one number of its type. Out pointers and tables are aligned for their numbers. Not even a length of 0 or a
+       refusal makes a null pointer right.
      - Nothing that is lent to one call overlaps: neither two areas, nor an area and an out value, nor two out values.
      - While a call works, no other thread touches what is lent to it. Calls on separate areas may run side by side.
      - There is stack for the call, below its arguments: in the archive (x86-64) no call takes more than
@@ -57,6 +59,8 @@
 #ifdef __cplusplus
 extern "C" {
 #endif
+
+#define GALHOVEIA_VERSION        "0.7.0" /* the second number is the last request that the library has */
 
 #define GALHOVEIA_WORDS          4096
 #define GALHOVEIA_PROGRAM_BYTES  8192

@@ -1,6 +1,6 @@
 #!/bin/sh
 # Links x86-64 objects on another processor, by the kit's linker with the kit's C library, and puts a command in front
-# that runs the program under the kit's emulator: link-foreign.sh KIT OUT OBJECTS...
+# that runs the program beside it under the kit's emulator: link-foreign.sh KIT OUT OBJECTS...
 set -e
 kit=$1
 out=$2
@@ -11,6 +11,6 @@ lib=$kit/lib
     "$lib/libc.so.6" "$lib/libc_nonshared.a" "$lib/libgcc.a" "$lib/crtendS.o" "$lib/crtn.o"
 cat >"$out" <<END
 #!/bin/sh
-exec "$kit/bin/qemu-x86_64" "$lib/ld-linux-x86-64.so.2" --library-path "$lib" "$(realpath "$out.x86-64")" "\$@"
+exec "$kit/bin/qemu-x86_64" "$lib/ld-linux-x86-64.so.2" --library-path "$lib" "\$(realpath "\$0").x86-64" "\$@"
 END
 chmod +x "$out"
