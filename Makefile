@@ -2,6 +2,7 @@
 #   make demo            builds what is missing and runs the main job on the example book
 #   make test            all tests of the C side; the last line tells how many passed and failed
 #   make test-sanitized  the same with the address and undefined-behaviour sanitizers, with fewer events
+#   make fuzz            bad input in bulk, sanitized, for SECONDS (60); make fuzz SECONDS=600 SEED=7 other inputs, for longer
 #   make wrong           tries every wrong answer by itself, over the proved crates; make wrong CRATE=sh_map those of one crate
 #   make bench           speed beside the second emulator, natively; make bench BEFORE=old/libhost.a also beside an
 #                        earlier library, an archive or object for this processor
@@ -24,6 +25,7 @@ endif
 
 EVENTS = 20000000
 SANITIZED_EVENTS = 1000000
+FUZZ_INPUTS = 1000000
 BOOK = examples/dispatcher.book
 
 # The proved library. Another archive with the same calls can be tested by make LIB=...
@@ -202,12 +204,22 @@ test: build/plain/header build/plain/header-cpp build/plain/desk build/plain/com
 
 # A finding ends with 99, which no command of the desk does. Leaks are not looked for: every command would take seconds
 # to end, and none lives long.
-test-sanitized: build/sanitized/desk build/sanitized/compare build/sanitized/text build/native/trials $(FAULTY_DESKS)
-	@ASAN_OPTIONS=detect_leaks=0:exitcode=99 UBSAN_OPTIONS=exitcode=99 tests/all.sh build/sanitized/text \
+SANITIZED = ASAN_OPTIONS=detect_leaks=0:exitcode=99 UBSAN_OPTIONS=exitcode=99
+
+test-sanitized: build/sanitized/desk build/sanitized/compare build/sanitized/text build/sanitized/fuzz \
+    build/native/trials $(FAULTY_DESKS)
+	@$(SANITIZED) tests/all.sh build/sanitized/text \
 	    "tests/desk.sh build/sanitized/desk $(FAULTY_DESKS)" \
+	    "build/sanitized/fuzz examples --inputs $(FUZZ_INPUTS)" \
 	    "build/native/trials build/trials" \
 	    "tests/clean.sh build/sanitized/compare calls --trials build/trials --machines 2 --cell-stride 200 --text-stride 10 --xref-stride 20" \
 	    "tests/clean.sh build/sanitized/compare runs --book $(BOOK) --events $(SANITIZED_EVENTS) --cell-stride 20"
+
+SECONDS = 60
+SEED = 1
+
+fuzz: build/sanitized/fuzz
+	@$(SANITIZED) build/sanitized/fuzz examples --seconds $(SECONDS) --seed $(SEED)
 
 # ---- Installing ----
 
@@ -241,5 +253,5 @@ stack: $(STACK) $(BENCH_LIB)
 clean:
 	rm -rf build
 
-.PHONY: all archive desk demo test test-sanitized install uninstall wrong bench build/bench/measure stack asked clean
+.PHONY: all archive desk demo test test-sanitized fuzz install uninstall wrong bench build/bench/measure stack asked clean
 .SECONDARY:

@@ -1,0 +1,61 @@
+/* Bad input in bulk: inputs drawn by changing good ones, or from nothing, and given to everything that the desk reads.
+
+   A unit is UNIT_INPUTS inputs of one kind, drawn from the unit's own seed, so that one can be looked at by itself. */
+#ifndef TESTS_FUZZ_H
+#define TESTS_FUZZ_H
+
+#include "chance.h"
+
+#include <stdbool.h>
+#include <stddef.h>
+#include <stdint.h>
+
+enum { UNIT_INPUTS = 100, INPUT_MOST = 1 << 17 };
+
+/* ---- What is drawn ---- */
+
+/* An input; a 0 stands behind its last byte. */
+struct input {
+    uint8_t at[INPUT_MOST + 1];
+    size_t length;
+};
+
+/* What inputs of a kind are made of: a good one, and words that mean something there, with a blank between them. */
+struct sample {
+    const uint8_t *good;
+    size_t length;
+    const char *words;
+};
+
+/* The good one or a part of it, changed in a few places, or, now and then, nothing but words or bytes at random. */
+void draw_text(struct input *input, const struct sample *sample);
+
+/* The good one with some bytes changed, lost or added. */
+void draw_bytes(struct input *input, const struct sample *sample);
+
+/* One of the words, kept until the next is drawn. */
+const char *draw_word(const char *words);
+
+/* ---- What is done with it ---- */
+
+/* What came of the inputs of a kind, so that it can be seen that some are taken and some are not. */
+struct outcome {
+    unsigned long taken, refused;
+};
+
+struct kind_of_input {
+    const char *name;
+    unsigned weight; /* how many units in so many as the weights come to */
+    void (*input)(struct outcome *outcome);
+};
+
+extern const struct kind_of_input text_kinds[], file_kinds[]; /* each ended by one without a name */
+
+/* Reads the examples and makes the files that inputs are changed from, in the folder where it stands. */
+void prepare_texts(const char *examples);
+void prepare_files(void);
+
+/* Says what must never be, and ends the worker. */
+_Noreturn void finding(const char *format, ...) __attribute__((format(printf, 1, 2)));
+
+#endif
