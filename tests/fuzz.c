@@ -37,6 +37,7 @@ static struct worker *workers;
 static unsigned worker_count;
 static uint64_t first_seed = 6754, units_end = 10000;
 static double ends_at; /* 0 where the units end it */
+static bool aloud;      /* what the desk says is seen */
 static FILE *report;
 
 static double now(void)
@@ -45,17 +46,6 @@ static double now(void)
 
     clock_gettime(CLOCK_MONOTONIC, &time);
     return (double)time.tv_sec + (double)time.tv_nsec / 1e9;
-}
-
-static const struct worker *alone; /* NULL where there are several */
-
-static void remove_folder(const struct worker *worker)
-{
-    char command[sizeof worker->folder + sizeof "rm -rf "];
-
-    snprintf(command, sizeof command, "rm -rf %s", worker->folder);
-    if (system(command) != 0)
-        fprintf(report, "%s is left behind\n", worker->folder);
 }
 
 _Noreturn void finding(const char *format, ...)
@@ -68,8 +58,6 @@ _Noreturn void finding(const char *format, ...)
     va_end(arguments);
     fprintf(report, "\n");
     fflush(report);
-    if (alone != NULL)
-        remove_folder(alone);
     _exit(1);
 }
 
@@ -120,6 +108,15 @@ static void make_folder(struct worker *worker)
         finding("there is no folder to work in");
 }
 
+static void remove_folder(const struct worker *worker)
+{
+    char command[sizeof worker->folder + sizeof "rm -rf "];
+
+    snprintf(command, sizeof command, "rm -rf %s", worker->folder);
+    if (system(command) != 0)
+        fprintf(report, "%s is left behind\n", worker->folder);
+}
+
 static void prepare(const struct worker *worker)
 {
     if (chdir(worker->folder) != 0)
@@ -141,8 +138,8 @@ static void start(struct worker *worker, uint64_t first)
         worker->process = process;
         return;
     }
-    if (freopen("/dev/null", "r", stdin) == NULL || freopen("/dev/null", "w", stdout) == NULL
-        || freopen("/dev/null", "w", stderr) == NULL)
+    if (freopen("/dev/null", "r", stdin) == NULL
+        || (!aloud && (freopen("/dev/null", "w", stdout) == NULL || freopen("/dev/null", "w", stderr) == NULL)))
         finding("no /dev/null");
     prepare(worker);
     for (uint64_t unit = first; ends_at > 0 ? now() < ends_at : unit < units_end; unit += worker_count)
@@ -186,7 +183,7 @@ static bool ended_well(struct worker *worker)
     if (stuck)
         fprintf(report, "FAILED unit %llu: an input has taken more than %d s\n", (unsigned long long)worker->unit,
                 STUCK_SECONDS);
-    else
+    else if (!aloud)
         show_unit(worker->unit);
     return false;
 }
@@ -208,7 +205,7 @@ static bool tell_kind(unsigned kind)
     return all.taken > 0 && all.refused > 0;
 }
 
-static int do_all(void)
+static int do_units(uint64_t first)
 {
     unsigned long passed = 0, failed = 0;
 
@@ -216,33 +213,19 @@ static int do_all(void)
     if (workers == MAP_FAILED)
         finding("no memory to share");
     for (unsigned at = 0; at < worker_count; at++)
-        start(&workers[at], at);
+        start(&workers[at], first + at);
     for (unsigned at = 0; at < worker_count; at++) {
         failed += !ended_well(&workers[at]);
         remove_folder(&workers[at]);
         passed += workers[at].inputs;
     }
-    for (unsigned kind = 0; kind < kind_count; kind++)
+    for (unsigned kind = 0; kind < kind_count && !aloud; kind++)
         if (!tell_kind(kind)) {
             fprintf(report, "FAILED %s: none was taken, or none refused\n", kinds[kind].name);
             failed++;
         }
     fprintf(report, "%lu passed, %lu failed\n", passed, failed);
     return failed == 0 ? EXIT_SUCCESS : EXIT_FAILURE;
-}
-
-/* One unit, in this process and with all that is said. */
-static int do_one(uint64_t unit)
-{
-    static struct worker worker;
-
-    make_folder(&worker);
-    alone = &worker;
-    prepare(&worker);
-    do_unit(&worker, unit);
-    remove_folder(&worker);
-    printf("unit %llu, %s: no finding\n", (unsigned long long)unit, kinds[kind_of_unit(unit)].name);
-    return EXIT_SUCCESS;
 }
 
 static uint64_t number_after(const char *option, const char *text)
@@ -257,8 +240,7 @@ static uint64_t number_after(const char *option, const char *text)
 int main(int argc, char **argv)
 {
     long processors = sysconf(_SC_NPROCESSORS_ONLN);
-    uint64_t unit = 0;
-    bool one = false;
+    uint64_t first = 0;
 
     report = fdopen(dup(STDOUT_FILENO), "w");
     worker_count = processors < 1 ? 1 : processors > WORKERS_MOST ? WORKERS_MOST : (unsigned)processors;
@@ -274,12 +256,14 @@ int main(int argc, char **argv)
         else if (strcmp(argv[at], "--seed") == 0)
             first_seed = number;
         else if (strcmp(argv[at], "--unit") == 0) {
-            unit = number;
-            one = true;
+            first = number;
+            units_end = number + 1;
+            worker_count = 1;
+            aloud = true;
         } else
             finding("no such option: %s", argv[at]);
     }
     take_kinds(text_kinds);
     take_kinds(file_kinds);
-    return one ? do_one(unit) : do_all();
+    return do_units(first);
 }

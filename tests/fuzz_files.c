@@ -149,7 +149,8 @@ static const char *const lines_of_texts[] = {
 };
 
 static const char *const lines_of_words[] = {
-    "--help", "--version", "run --help", "fresh new.state --options 7", "fresh copy.state --force",
+    "--help", "--version", "run --help", "fresh new.state --options 7", "fresh copy.state --force", "fresh kept.state",
+    "listing kept.book --out kept.lst", "run kept.book kept.script --state kept.state --save kept.state",
     "run kept.book kept.script --stop 010 --options 5 --save new.state --show --digits 1 --columns 4",
     "run copy.book copy.script --state copy.state --save copy.state --force",
     "run kept.book kept.script --watch 020 --wav new.wav --rate 112500",
@@ -243,7 +244,7 @@ static void say_line(const struct line *line, char *said, size_t room)
         length += (size_t)snprintf(said + length, room - length, " %s", line->word[at]);
 }
 
-static void work(struct outcome *outcome, struct line *line)
+static enum status work(struct outcome *outcome, struct line *line)
 {
     char *argv[WORDS_MOST + 2] = {"desk"}, said[WORDS_MOST * WORD_ROOM];
     enum status status;
@@ -260,6 +261,7 @@ static void work(struct outcome *outcome, struct line *line)
     look_at_folder(said);
     if (strstr(said, "copy.") != NULL)
         restore_copies();
+    return status;
 }
 
 /* The file that a line names as drawn, from the kept one of its kind. */
@@ -278,15 +280,13 @@ static void draw_file(const struct line *line)
             }
 }
 
-static void work_drawn(struct outcome *outcome, const char *words)
+static enum status work_drawn(struct outcome *outcome, const char *words)
 {
     struct line line;
 
     cut_words(&line, words);
     draw_file(&line);
-    if (any(16) == 0)
-        change_words(&line);
-    work(outcome, &line);
+    return work(outcome, &line);
 }
 
 static void input_book(struct outcome *outcome)
@@ -296,7 +296,10 @@ static void input_book(struct outcome *outcome)
 
 static void input_state(struct outcome *outcome)
 {
-    work_drawn(outcome, LINE_OF(lines_of_states));
+    enum { STATE_BYTES = GALHOVEIA_MEMORY_BYTES + GALHOVEIA_RECORD_BYTES };
+
+    if (work_drawn(outcome, LINE_OF(lines_of_states)) != WRONG_USE && input.length != STATE_BYTES)
+        finding("a state of %zu bytes is read", input.length);
 }
 
 static void input_text_file(struct outcome *outcome)

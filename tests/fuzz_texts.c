@@ -14,7 +14,7 @@
                 "0x 0x1F $ -1 + "
 
 #define EVENTS NUMBERS "cycle base watchdog reset sound a=1 b=F c=0 d=7 a= =5 $00 $04 $05 $06 $2A $4F $50 $FF * *0 *1 " \
-               "*2 *7 *999 ** ( ) )* )*0 )*3 )*9 # ( ( ( ) )"
+               "*2 *7 *999 ** ( ) )* )*0 )*3 )*9 # ( (((( (((((((((((((((( ) ))))"
 
 static struct bytes script, two_cars, assembly, wiring, level, listing;
 static struct book example;
@@ -125,7 +125,9 @@ static void input_assembly(struct outcome *outcome)
 {
     struct bytes made;
 
-    if (!taken(outcome, assembly, NUMBERS "ORG EQU DW ADC LDI STA JMP CALL BNZ RTNW DAA NOP TJMP , : ; name name: _ $020 , - + +",
+    if (!taken(outcome, assembly,
+               NUMBERS "ORG EQU DW ADC LDI STA JMP CALL BNZ RTNW DAA NOP TJMP , : ; name name: _ $020 , - + + "
+                       "a_name_that_has_thirty_letters a_name_that_has_twenty",
                program_from_text, &made))
         return;
     if (refusal_of_book(made, example.wiring, example.level) != GALHOVEIA_DONE)
@@ -138,8 +140,8 @@ static void input_wiring(struct outcome *outcome)
     struct bytes made;
     uint32_t refusal;
 
-    if (!taken(outcome, wiring, NUMBERS "$300.0 $348.3 $349.0 $2FF.1 $300.4 $300. .1 . $300.$1 768.2 #", wiring_from_text,
-               &made))
+    if (!taken(outcome, wiring, NUMBERS "$300.0 $348.3 $349.0 $2FF.1 $300.4 $300. .1 . $300.$1 768.2 #",
+               wiring_from_text, &made))
         return;
     refusal = refusal_of_book(example.program, made, example.level);
     if (refusal != GALHOVEIA_DONE && refusal != GALHOVEIA_LENGTH && refusal != GALHOVEIA_BODY)
@@ -152,7 +154,8 @@ static void input_level(struct outcome *outcome)
     struct bytes made;
     uint32_t refusal;
 
-    if (!taken(outcome, level, NUMBERS "high low ground high low ground $020 $021 2 $16F $300 #", level_from_text, &made))
+    if (!taken(outcome, level, NUMBERS "high low ground high low ground $020 $021 2 $16F $300 #", level_from_text,
+               &made))
         return;
     refusal = refusal_of_book(example.program, example.wiring, made);
     if (refusal != GALHOVEIA_DONE && refusal != GALHOVEIA_BODY)
@@ -167,7 +170,8 @@ static void input_level(struct outcome *outcome)
 static void input_listing(struct outcome *outcome)
 {
     static uint8_t program[GALHOVEIA_PROGRAM_BYTES], again[GALHOVEIA_LISTING_BYTES_MOST];
-    const struct sample sample = {listing.at, any(64) ? 400 : listing.length, "DATA NOP ADC 000 001 FFFF 0A0 013 3CA0 STA "};
+    const struct sample sample = {listing.at, any(64) ? 400 : listing.length,
+                                  "DATA NOP ADC 000 001 FFFF 0A0 013 3CA0 STA"};
     uint64_t value = 0;
     uint32_t refusal;
 
