@@ -15,8 +15,8 @@ STRICT = -Wall -Wextra -pedantic
 CFLAGS = -O2 $(STRICT)
 SANITIZE = -fsanitize=address,undefined -fno-sanitize-recover=all -fno-omit-frame-pointer
 
-# What is missing is told before anything starts.
-ifneq ($(MAKECMDGOALS),clean)
+# What is missing is told before anything starts that needs it.
+ifneq ($(filter-out clean uninstall,$(or $(MAKECMDGOALS),all)),)
 MISSING := $(shell tests/missing.sh rt $(firstword $(CC)) $(firstword $(CXX)))
 ifneq ($(MISSING),)
 $(error $(MISSING))
@@ -177,6 +177,12 @@ build/native/stale: $(patsubst %.c,build/native/objects/%.o,$(DESK) tests/stale.
 build/native/looped: $(patsubst %.c,build/native/objects/%.o,$(DESK) tests/looped.c tests/standin.c $(SECOND))
 	$(CC) -Wl,--wrap=galhoveia_xref_build -o $@ $^
 
+build/native/slow: $(patsubst %.c,build/native/objects/%.o,$(DESK) tests/slow.c tests/standin.c $(SECOND))
+	$(CC) -Wl,--wrap=fsync -o $@ $^
+
+build/native/terminal: build/native/objects/tests/terminal.o
+	$(CC) -o $@ $^
+
 build/sanitized/desk: $(DESK:%.c=build/sanitized/objects/%.o) $(SANITIZED_LIB)
 	$(CC) $(SANITIZE) -o $@ $^
 
@@ -195,9 +201,10 @@ build/sanitized/fuzz: $(FUZZ:%.c=build/sanitized/objects/%.o) $(SANITIZED_LIB)
 FAULTY_DESKS = build/native/forgetful build/native/deaf build/native/torn build/native/stale build/native/looped
 
 test: build/plain/header build/plain/header-cpp build/plain/desk build/plain/compare build/plain/text \
-    build/native/trials $(STACK) $(FAULTY_DESKS)
+    build/native/trials build/native/slow build/native/terminal $(STACK) $(FAULTY_DESKS)
 	@tests/all.sh tests/newcomer.sh "tests/header.sh $(CC) $(CXX)" build/plain/header build/plain/header-cpp \
 	    build/plain/text "tests/desk.sh build/plain/desk $(FAULTY_DESKS)" $(STACK_TEST) \
+	    "tests/terminal.sh build/plain/desk build/native/slow build/native/terminal" \
 	    "tests/install.sh '$(LINKED_CC)' '$(LINKED_CXX)' '$(LINK_TO)' $(LIB)" \
 	    "build/native/trials build/trials" \
 	    "tests/beside.sh 'build/plain/compare calls --trials build/trials' 'build/plain/compare runs --book $(BOOK) --events $(EVENTS)'"

@@ -51,6 +51,8 @@ every_way() {
     is_told "$1" make demo
     is_told "$1" make test
     is_told "$1" make test-sanitized
+    is_told "$1" make fuzz
+    is_told "$1" make install
     is_told "$1" make wrong
     is_told "$1" make bench
     is_told "$1" ./check
@@ -69,6 +71,8 @@ without rt gcc g++
 every_way 'the Rattle kit (rt), gcc, g++'
 runs make -n clean
 check [ "$status$output" = '0rm -rf build' ]
+runs make -n uninstall
+check [ "$status" = 0 ]
 without make
 is_told make ./check
 

@@ -1,0 +1,90 @@
+#!/bin/sh
+# Tests of the desk command at a terminal: terminal.sh PATH-OF-DESK PATH-OF-SLOW-DESK (slow.c) PATH-OF-TERMINAL
+# (terminal.c), from the repository's folder.
+desk=$(realpath "$1") || exit 2
+slow=$(realpath "$2") || exit 2
+terminal=$(realpath "$3") || exit 2
+. tests/desk-lib.sh
+
+# at STATUS DOINGS WORDS...: runs a command at a terminal, where a person does what the lines say; what is seen is kept
+# in out.
+at() {
+    wanted=$1
+    doings=$2
+    shift 2
+    said="at a terminal: $*"
+    printf '%s' "$doings" | "$terminal" "$@" >out 2>err
+    got=$?
+    if [ "$got" = "$wanted" ]; then ok; else wrong "$said: status $got, not $wanted"; cat err; tail -c 2000 out; fi
+}
+
+says_not() {
+    if grep -qF -- "$2" "$1"; then wrong "$said: '$2' in std$1:"; tail -c 2000 "$1"; else ok; fi
+}
+
+told='desk: '
+interrupted=130
+printf 'cycle*40000000' >long.script
+printf ' ORG 0\nhere: ADIM $020, 1\n LDA $020\n JMP here\n' >busy.asm
+ends 0 book make busy.book busy.asm "$examples/dispatcher.wiring" "$examples/dispatcher.level"
+
+echo "terminal: progress"
+# More than a second of watching: it is told how far it is. ctrl-C ends it at once.
+at $interrupted 'expect events looked at, 1 s
+expect events looked at, 2 s
+key C-c
+' "$desk" run busy.book long.script --watch 021 --save never.state
+says out ' of 40000000 events looked at, 1 s'
+absent never.state
+no_parts
+# A short run tells nothing of it, and takes no line back.
+at 0 '' "$desk" run "$book" "$script"
+says_not out "$(printf '\r%s' "$told")"
+says out "stopped at the script's end"
+# What is told goes to standard error, and is taken away before the end.
+printf 'cycle*5000000' >seconds.script
+at 0 'expect events looked at, 1 s
+' sh -c '"$1" run busy.book seconds.script --watch 021 >shown' sh "$desk"
+says shown '5000000 of 5000000 events done'
+if grep -q "$(printf '\r')" shown; then wrong "$said: progress on standard output"; else ok; fi
+case $(tail -c 4 out) in *"$(printf '\r\033[K')") ok ;; *) wrong "$said: what is told is not taken away" ;; esac
+# Where standard error is no terminal nothing is told.
+at 0 '' sh -c '"$1" run busy.book seconds.script --watch 021 2>told' sh "$desk"
+if [ -s told ]; then wrong "$said: something is told"; else ok; fi
+says_not out 'events looked at'
+
+echo "terminal: ctrl-C while a file is written"
+ends 0 fresh kept.state
+cp kept.state before
+# The file beside it is there while the disk takes its time; then it is gone, and the one that was there is whole.
+at $interrupted 'wait 0.7
+key C-c
+' "$slow" fresh kept.state --options 3 --force
+same kept.state before
+no_parts
+at $interrupted 'wait 0.7
+key C-c
+' "$slow" fresh new.state
+absent new.state
+no_parts
+# It was met half way: without ctrl-C it is written.
+at 0 '' "$slow" fresh kept.state --options 3 --force
+cmp -s kept.state before && wrong "$said: nothing is written" || ok
+no_parts
+# The same of what ends a command from outside.
+for signal in TERM HUP; do
+    cp before kept.state
+    "$slow" fresh kept.state --options 3 --force >/dev/null 2>&1 &
+    process=$!
+    sleep 0.7
+    said="kill -$signal"
+    if ls kept.state.part-* >/dev/null 2>&1; then ok; else wrong "$said: nothing was under way"; fi
+    kill -$signal $process
+    wait $process 2>/dev/null
+    [ $? -gt 128 ] && ok || wrong "$said: the command did not end by it"
+    same kept.state before
+    no_parts
+done
+
+echo "$passed passed, $failed failed"
+[ "$failed" = 0 ]
