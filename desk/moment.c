@@ -1,7 +1,10 @@
 /* One event, seen. */
 #include "moment.h"
 
+#include "progress.h"
 #include "texts.h"
+
+#include <string.h>
 
 /* The interrupt flags. */
 enum { ENABLED = 0x000, REQUESTED = 0x001 };
@@ -64,4 +67,31 @@ void show_moment(FILE *to, const struct book *book, const struct moment *moment)
     show_work(to, moment);
     show_differences(to, moment);
     fprintf(to, "\n");
+}
+
+/* ---- A run's events ---- */
+
+bool see_events(const struct run *run, uint64_t first, bool (*see)(void *with, const struct moment *moment), void *with)
+{
+    struct moment moment = {.after = run->start};
+    bool faultless = true;
+
+    for (uint64_t done = 0; done < run->done; done++) {
+        uint64_t value = 0;
+        uint32_t refusal;
+
+        moment.place = first + done;
+        moment.event = run->events.at[done];
+        moment.before = moment.after;
+        refusal = step_once(run->book, &moment.after, moment.event, &value);
+        progress_at(done);
+        if (refusal != GALHOVEIA_DONE) {
+            say_refusal("a single step", refusal, value);
+            return say_fault("event %llu was done by the run", (unsigned long long)moment.place);
+        }
+        faultless = see(with, &moment) && faultless;
+    }
+    if (memcmp(&moment.after, &run->end, sizeof moment.after) != 0)
+        return say_fault("single steps and the run come to different states");
+    return faultless;
 }

@@ -5,7 +5,6 @@
 #include "progress.h"
 
 #include <stdio.h>
-#include <string.h>
 
 /* What an address is to a watched cell. */
 enum { NO_WRITER, NEVER_CHANGED, CHANGED };
@@ -40,25 +39,24 @@ bool watch_level(struct watch *watch, const struct book *book)
 /* ---- A run's events, one by one ---- */
 
 /* One change, by the instruction at which the machine stood. */
-static bool show_change(struct watched *watched, const struct book *book, uint64_t place, uint8_t event,
-                        const struct state *before, const struct state *now)
+static bool show_change(struct watched *watched, const struct book *book, const struct moment *moment)
 {
-    unsigned address = two(before->record + GALHOVEIA_RECORD_PC);
+    const unsigned long long place = moment->place;
+    const unsigned long cell = watched->cell;
+    unsigned address = two(moment->before.record + GALHOVEIA_RECORD_PC);
 
     clear_progress();
-    printf("  event %llu: $%03lX %u -> %u  by  ", (unsigned long long)place, (unsigned long)watched->cell,
-           before->memory[watched->cell], now->memory[watched->cell]);
+    printf("  event %llu: $%03lX %u -> %u  by  ", place, cell, moment->before.memory[cell], moment->after.memory[cell]);
     if (watched->writer[address] == NO_WRITER)
         show_instruction(book, address);
     else
         show_writer(book, address);
     watched->changes++;
-    if (work_of(event, before, now) != EXECUTES)
-        return say_fault("event %llu executes no instruction and changed cell $%03lX", (unsigned long long)place,
-                         (unsigned long)watched->cell);
+    if (work_of(moment->event, &moment->before, &moment->after) != EXECUTES)
+        return say_fault("event %llu executes no instruction and changed cell $%03lX", place, cell);
     if (watched->writer[address] == NO_WRITER)
-        return say_fault("event %llu changed cell $%03lX at $%03X, which its list of writers does not have",
-                         (unsigned long long)place, (unsigned long)watched->cell, address);
+        return say_fault("event %llu changed cell $%03lX at $%03X, which its list of writers does not have", place,
+                         cell, address);
     watched->writer[address] = CHANGED;
     return true;
 }
@@ -82,42 +80,33 @@ static void show_writers_seen(const struct watched *watched, const struct book *
         }
 }
 
-/* Each event by a single step. Answers whether the run's end was come to without a fault. */
-static bool step_through(struct watch *watch, const struct run *run)
+struct watching {
+    struct watch *watch;
+    const struct book *book;
+};
+
+static bool see_changes(void *with, const struct moment *moment)
 {
-    struct state now = run->start;
+    const struct watching *watching = with;
     bool faultless = true;
 
-    for (uint64_t place = 0; place < run->done; place++) {
-        struct state before = now;
-        uint8_t event = run->events.at[place];
-        uint64_t value = 0;
-        uint32_t refusal = step_once(run->book, &now, event, &value);
+    for (size_t at = 0; at < watching->watch->count; at++) {
+        struct watched *watched = &watching->watch->cells[at];
 
-        progress_at(place);
-        if (refusal != GALHOVEIA_DONE) {
-            say_refusal("a single step", refusal, value);
-            return say_fault("event %llu was done by the run", (unsigned long long)place);
-        }
-        for (size_t at = 0; at < watch->count; at++) {
-            struct watched *watched = &watch->cells[at];
-
-            if (before.memory[watched->cell] != now.memory[watched->cell])
-                faultless = show_change(watched, run->book, place, event, &before, &now) && faultless;
-        }
+        if (moment->before.memory[watched->cell] != moment->after.memory[watched->cell])
+            faultless = show_change(watched, watching->book, moment) && faultless;
     }
-    if (memcmp(&now, &run->end, sizeof now) != 0)
-        return say_fault("single steps and the run come to different states");
     return faultless;
 }
 
 bool show_changes(struct watch *watch, const struct run *run)
 {
+    struct watching watching = {watch, run->book};
     bool faultless;
 
     printf("changes, with events counted from 0:\n");
     begin_progress("events looked at", run->done);
-    faultless = step_through(watch, run);
+    faultless = see_events(run, 0, see_changes, &watching);
     end_progress();
     for (size_t at = 0; at < watch->count; at++)
         show_writers_seen(&watch->cells[at], run->book);
