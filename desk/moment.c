@@ -23,33 +23,35 @@ enum work work_of(uint8_t event, const struct state *before, const struct state 
 
 /* ---- A line ---- */
 
+/* A line of the listing in brackets; and the cells that are first looked at together, since most events change few. */
+enum { AT_ROOM = GALHOVEIA_LINE_BYTES_MOST + 2, CELLS_TOGETHER = 64 };
+
 void show_moments_head(FILE *to)
 {
-    fprintf(to, "   event  what      PC  word instruction   AC CY mode     changes, before -> after\n");
+    fprintf(to, "   event  what       at  word instruction    PC  AC CY mode     changes, before -> after\n");
 }
 
-static void show_work(FILE *to, const struct moment *moment)
+static void show_work(FILE *to, enum work work, const struct state *after)
 {
-    switch (work_of(moment->event, &moment->before, &moment->after)) {
-    case INTERRUPTS:
-        fprintf(to, "  interrupt to $%03X", two(moment->after.record + GALHOVEIA_RECORD_PC));
-        break;
-    case SLEEPS:
+    if (work == INTERRUPTS)
+        fprintf(to, "  interrupt to $%03X", two(after->record + GALHOVEIA_RECORD_PC));
+    else if (work == SLEEPS)
         fprintf(to, "  asleep");
-        break;
-    default:
-        break;
-    }
 }
 
 static void show_differences(FILE *to, const struct moment *moment)
 {
+    const uint8_t *before = moment->before.memory, *after = moment->after.memory;
     const uint8_t *pins_before = moment->before.record + GALHOVEIA_RECORD_PINS;
     const uint8_t *pins_after = moment->after.record + GALHOVEIA_RECORD_PINS;
 
-    for (unsigned cell = 0; cell < GALHOVEIA_MEMORY_BYTES; cell++)
-        if (moment->before.memory[cell] != moment->after.memory[cell])
-            fprintf(to, "  $%03X %X -> %X", cell, moment->before.memory[cell], moment->after.memory[cell]);
+    for (unsigned from = 0; from < GALHOVEIA_MEMORY_BYTES; from += CELLS_TOGETHER) {
+        if (memcmp(before + from, after + from, CELLS_TOGETHER) == 0)
+            continue;
+        for (unsigned cell = from; cell < from + CELLS_TOGETHER; cell++)
+            if (before[cell] != after[cell])
+                fprintf(to, "  $%03X %X -> %X", cell, before[cell], after[cell]);
+    }
     for (int port = 0; port < PORTS; port++)
         if (pins_before[port] != pins_after[port])
             fprintf(to, "  pins %c %X -> %X", 'A' + port, pins_before[port], pins_after[port]);
@@ -58,13 +60,16 @@ static void show_differences(FILE *to, const struct moment *moment)
 void show_moment(FILE *to, const struct book *book, const struct moment *moment)
 {
     static const char *const modes[] = {"running", "HALT", "STOP"};
+    const enum work work = work_of(moment->event, &moment->before, &moment->after);
     const uint8_t *record = moment->after.record;
-    char word[EVENT_WORD_ROOM];
+    char word[EVENT_WORD_ROOM], at[AT_ROOM];
 
-    fprintf(to, "%8llu  %-8s  %-20s %X  %u  %-7s", (unsigned long long)moment->place, event_word(moment->event, word),
-            book->lines.at[two(moment->before.record + GALHOVEIA_RECORD_PC)], record[GALHOVEIA_RECORD_AC],
+    snprintf(at, sizeof at, work == EXECUTES ? " %s" : "(%s)",
+             book->lines.at[two(moment->before.record + GALHOVEIA_RECORD_PC)]);
+    fprintf(to, "%8llu  %-8s  %-22s %03X  %X  %u  %-7s", (unsigned long long)moment->place,
+            event_word(moment->event, word), at, two(record + GALHOVEIA_RECORD_PC), record[GALHOVEIA_RECORD_AC],
             record[GALHOVEIA_RECORD_CY], modes[record[GALHOVEIA_RECORD_MODE]]);
-    show_work(to, moment);
+    show_work(to, work, &moment->after);
     show_differences(to, moment);
     fprintf(to, "\n");
 }

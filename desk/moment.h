@@ -16,9 +16,9 @@ struct moment {
     struct state before, after;
 };
 
-/* A line for a moment: the event's number and word; the listing's line at PC as it was before; AC, CY and mode after it;
-   what a cycle came to where it did not execute that line; and each cell and pin that was changed, before and after. And
-   a line that heads them. */
+/* A line for a moment: the event's number and word; the listing's line at PC as it was before, in brackets where the
+   event did not execute it; PC, AC, CY and mode after it; what a cycle came to that executed nothing; and each cell and
+   pin that was changed, before and after. And a line that heads them. */
 void show_moments_head(FILE *to);
 void show_moment(FILE *to, const struct book *book, const struct moment *moment);
 
