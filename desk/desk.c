@@ -8,6 +8,7 @@
 #include "manual.h"
 #include "patch.h"
 #include "texts.h"
+#include "trace.h"
 #include "two.h"
 #include "watch.h"
 #include "wave.h"
@@ -315,6 +316,20 @@ static const struct command commands[] = {
      "--wav writes what the sound channels put out, a sample for each sound clock that was done, channel 1 left and\n"
      "channel 2 right, as a WAV file. HZ is the sound clock: 32768 (if not given) or 112500.\n",
      run_texts, work_run},
+    {"trace", "trace BOOK SCRIPT [--from N] [--count N] [--state FILE | --options N] [--raw-script]\n"
+              "                  [--vcd FILE [--lines] [--force]]",
+     "shows a script's events one by one: what each executed, and what it changed",
+     "The chip is fresh, or as in the state FILE. A line has the event's number, counted from 0, and its word; the line\n"
+     "of the program's listing (desk listing) at which PC stood, in brackets where the event did not execute it; PC, AC,\n"
+     "CY and mode after the event; then each memory cell and each port's pins that it changed, before -> after. A cycle\n"
+     "that took an interrupt or passed asleep says so. The lines begin with event --from N, 0 if not given; the events\n"
+     "before it happen all the same. --count N shows N events, or all that there are. A word that is no instruction ends\n"
+     "the trace (refusal 6); what was shown before it stands.\n"
+     "--vcd writes the same events as a value change dump, which GTKWave opens: PC, AC, CY and mode, the pins and the\n"
+     "cells of ports A to D, Timer0's counter, the level's digits and what the sound channels put out. A time unit is a\n"
+     "cycle: what an event leaves stands at the number of cycles done so far, those before --from among them. With --vcd\n"
+     "the lines are shown only if --lines is given.\n",
+     run_texts, work_trace},
     {"run-two", "run-two BOOK SCRIPT [--stop0 HEX] [--state0 FILE | --options0 N] [--save0 FILE]\n"
                 "                    [--stop1 HEX] [--state1 FILE | --options1 N] [--save1 FILE]\n"
                 "                    [--force] [--raw-script] [--digits N] [--columns N]",
@@ -373,8 +388,8 @@ static const char closing[] =
     "No file is written over unless --force is given.\n"
     "Exit status: 0 done; 1 refused by the library, which is said with its number and value; 2 wrong use,\n"
     "or a file that cannot be read, is in the way, or is not what it should be; 3 a fault of the library,\n"
-    "which a watched run, a run that is heard, the demo, a patch and whatever takes a listing's lines or a\n"
-    "cross-reference look for.\n";
+    "which a watched run, a run that is heard, a trace, the demo, a patch and whatever takes a listing's lines\n"
+    "or a cross-reference look for.\n";
 
 static void print_overview(FILE *to)
 {

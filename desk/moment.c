@@ -76,7 +76,7 @@ void show_moment(FILE *to, const struct book *book, const struct moment *moment)
 
 /* ---- A run's events ---- */
 
-bool see_events(const struct run *run, uint64_t first, bool (*see)(void *with, const struct moment *moment), void *with)
+bool see_events(const struct run *run, uint64_t first, seer *see, void *with)
 {
     struct moment moment = {.after = run->start};
     bool faultless = true;

@@ -22,9 +22,11 @@ struct moment {
 void show_moments_head(FILE *to);
 void show_moment(FILE *to, const struct book *book, const struct moment *moment);
 
-/* Lets the events that a run has done happen again one by one, from its start, and each be seen; `first` is the place of
-   the first. Answers false for a fault, which is said where it is found here: a refused event, or another end than the
-   run's. Where `see` answers false for one that it found, the others are still seen. */
-bool see_events(const struct run *run, uint64_t first, bool (*see)(void *with, const struct moment *moment), void *with);
+/* Lets the events that a run has done happen again one by one, from its start, and each be seen; `first` is the place
+   of the first. Answers false for a fault, which is said where it is found here: a refused event, or another end than
+   the run's. Where `see` answers false for one that it found, the others are still seen. */
+typedef bool seer(void *with, const struct moment *moment);
+
+bool see_events(const struct run *run, uint64_t first, seer *see, void *with);
 
 #endif

@@ -35,6 +35,19 @@ static bool all_events_known(const struct run *run)
     return true;
 }
 
+/* A script that has such a byte is refused by the library before anything moves. */
+uint32_t judge_events(const struct run *run, uint64_t *value)
+{
+    struct state start = run->start;
+    uint32_t reason;
+    uint64_t done;
+
+    *value = 0;
+    if (all_events_known(run))
+        return GALHOVEIA_DONE;
+    return run_part(run, run->events, GALHOVEIA_NO_STOP, &start, &reason, &done, value);
+}
+
 /* Part by part it is the same run, since the first part that stops is the last. A script with a byte that is no event
    is refused whole, before anything moves, so it is lent whole. */
 uint32_t do_run(struct run *run, uint32_t stop, uint64_t *value)

@@ -13,6 +13,10 @@ struct run {
     struct state start, end;
 };
 
+/* Judges the run's whole script, before anything moves. Answers 0, or the refusal where a byte of it is no event, which
+   is not said; where the library has something against the start too, it may be that. */
+uint32_t judge_events(const struct run *run, uint64_t *value);
+
 /* Lets the run's events happen to the chip, from its start. Answers 0 or the refusal, which is not said. */
 uint32_t do_run(struct run *run, uint32_t stop, uint64_t *value);
 
