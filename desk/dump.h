@@ -1,4 +1,4 @@
-/* A script's events as a value change dump (VCD, IEEE 1364), which GTKWave shows: the chip's signals over the cycles. */
+/* The signals of a chip over the cycles of a script, as a value change dump (VCD, IEEE 1364), which GTKWave shows. */
 #ifndef DESK_DUMP_H
 #define DESK_DUMP_H
 

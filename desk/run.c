@@ -10,49 +10,35 @@ enum { PART_EVENTS = 1 << 22, BYTES_ALL = 256 };
 
 /* ---- The library's run ---- */
 
-static uint32_t run_part(const struct run *run, struct bytes events, uint32_t stop, struct state *state,
-                         uint32_t *reason, uint64_t *done, uint64_t *value)
+uint32_t run_part(const struct book *book, struct state *state, struct bytes events, uint32_t stop, uint32_t *reason,
+                  uint64_t *done, uint64_t *value)
 {
-    const struct book *book = run->book;
-
     return galhoveia_run(book->program.at, book->program.length, state->memory, sizeof state->memory, state->record,
                          sizeof state->record, events.at, events.length, stop, reason, done, value);
 }
 
-/* Whether every byte of a script is an event, as the library answers of each byte to a chip just switched on. */
-static bool all_events_known(const struct run *run)
+/* As the library answers of each byte to a chip just switched on. */
+bool all_events_known(const struct book *book, struct bytes events)
 {
     bool met[BYTES_ALL] = {false};
     struct state fresh;
     uint64_t value;
 
-    for (size_t at = 0; at < run->events.length; at++)
-        met[run->events.at[at]] = true;
+    for (size_t at = 0; at < events.length; at++)
+        met[events.at[at]] = true;
     for (unsigned byte = 0; byte < BYTES_ALL; byte++)
         if (met[byte] && (!make_fresh(&fresh, 0, "a fresh machine")
-                          || step_once(run->book, &fresh, (uint8_t)byte, &value) == GALHOVEIA_UNKNOWN_EVENT))
+                          || step_once(book, &fresh, (uint8_t)byte, &value) == GALHOVEIA_UNKNOWN_EVENT))
             return false;
     return true;
-}
-
-/* A script that has such a byte is refused by the library before anything moves. */
-uint32_t judge_events(const struct run *run, uint64_t *value)
-{
-    struct state start = run->start;
-    uint32_t reason;
-    uint64_t done;
-
-    *value = 0;
-    if (all_events_known(run))
-        return GALHOVEIA_DONE;
-    return run_part(run, run->events, GALHOVEIA_NO_STOP, &start, &reason, &done, value);
 }
 
 /* Part by part it is the same run, since the first part that stops is the last. A script with a byte that is no event
    is refused whole, before anything moves, so it is lent whole. */
 uint32_t do_run(struct run *run, uint32_t stop, uint64_t *value)
 {
-    size_t most = run->events.length > PART_EVENTS && all_events_known(run) ? PART_EVENTS : run->events.length;
+    bool in_parts = run->events.length > PART_EVENTS && all_events_known(run->book, run->events);
+    size_t most = in_parts ? PART_EVENTS : run->events.length;
     uint32_t refusal;
 
     run->end = run->start;
@@ -65,7 +51,7 @@ uint32_t do_run(struct run *run, uint32_t stop, uint64_t *value)
         const struct bytes part = {run->events.at + run->done, rest < most ? rest : most};
         uint64_t done = 0;
 
-        refusal = run_part(run, part, stop, &run->end, &run->reason, &done, value);
+        refusal = run_part(run->book, &run->end, part, stop, &run->reason, &done, value);
         run->done += done;
         progress_at(run->done);
     } while (refusal == GALHOVEIA_DONE && run->reason == GALHOVEIA_AT_END && run->done < run->events.length);

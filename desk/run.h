@@ -13,10 +13,6 @@ struct run {
     struct state start, end;
 };
 
-/* Judges the run's whole script, before anything moves. Answers 0, or the refusal where a byte of it is no event, which
-   is not said; where the library has something against the start too, it may be that. */
-uint32_t judge_events(const struct run *run, uint64_t *value);
-
 /* Lets the run's events happen to the chip, from its start. Answers 0 or the refusal, which is not said. */
 uint32_t do_run(struct run *run, uint32_t stop, uint64_t *value);
 
@@ -26,6 +22,14 @@ uint32_t run_events(struct run *run, uint32_t stop);
 
 /* Says why a run stopped, as the rest of a line, and what the registers then are. */
 void show_stop(uint32_t reason, uint32_t stop, const struct state *state);
+
+/* Lets events happen to a state by one call of the library, as galhoveia_run has it. Answers 0 or the refusal, which is
+   not said. */
+uint32_t run_part(const struct book *book, struct state *state, struct bytes events, uint32_t stop, uint32_t *reason,
+                  uint64_t *done, uint64_t *value);
+
+/* Whether every byte of a script is an event, so that any part of it runs as it would in the whole. */
+bool all_events_known(const struct book *book, struct bytes events);
 
 /* Lets one event happen. Answers 0 or the refusal, which is not said. */
 uint32_t step_once(const struct book *book, struct state *state, uint8_t event, uint64_t *value);
