@@ -25,6 +25,8 @@ endif
 
 EVENTS = 20000000
 SANITIZED_EVENTS = 1000000
+DRAWS = 200
+SANITIZED_DRAWS = 20
 FUZZ_INPUTS = 1000000
 BOOK = examples/dispatcher.book
 
@@ -66,6 +68,7 @@ BENCH = $(wildcard bench/*.c) desk/attempt.c desk/files.c desk/progress.c desk/r
 STACK = $(patsubst %.c,build/native/objects/%.o,tests/stack.c tests/counting.c tests/machines.c)
 FUZZ = $(wildcard tests/fuzz*.c) tests/counting.c $(filter-out desk/main.c,$(DESK))
 TRIALS = tests/trials.c tests/counting.c tests/machines.c tests/forms.c
+FOLLOWED = $(wildcard tests/followed*.c) tests/counting.c tests/machines.c
 HEADERS = $(wildcard bench/*.h desk/*.h tests/*.h second/*.h)
 
 all: desk
@@ -162,6 +165,9 @@ build/plain/text: $(patsubst %.c,build/plain/objects/%.o,$(TEXT) second/instruct
 build/native/trials: $(patsubst %.c,build/native/objects/%.o,$(TRIALS) $(SECOND))
 	$(CC) -o $@ $^
 
+build/native/followed: $(patsubst %.c,build/native/objects/%.o,$(FOLLOWED) $(SECOND))
+	$(CC) -o $@ $^
+
 build/native/forgetful: $(patsubst %.c,build/native/objects/%.o,$(DESK) tests/forgetful.c tests/standin.c $(SECOND))
 	$(CC) -Wl,--wrap=galhoveia_list -o $@ $^
 
@@ -201,9 +207,10 @@ build/sanitized/fuzz: $(FUZZ:%.c=build/sanitized/objects/%.o) $(SANITIZED_LIB)
 FAULTY_DESKS = build/native/forgetful build/native/deaf build/native/torn build/native/stale build/native/looped
 
 test: build/plain/header build/plain/header-cpp build/plain/desk build/plain/compare build/plain/text \
-    build/native/trials build/native/slow build/native/terminal $(STACK) $(FAULTY_DESKS)
+    build/native/trials build/native/slow build/native/terminal build/native/followed $(STACK) $(FAULTY_DESKS)
 	@tests/all.sh tests/newcomer.sh "tests/header.sh $(CC) $(CXX)" build/plain/header build/plain/header-cpp \
-	    build/plain/text "tests/desk.sh build/plain/desk $(FAULTY_DESKS)" $(STACK_TEST) \
+	    build/plain/text "tests/desk.sh build/plain/desk $(FAULTY_DESKS)" \
+	    "tests/trace.sh build/plain/desk build/native/deaf build/native/followed $(DRAWS)" $(STACK_TEST) \
 	    "tests/terminal.sh build/plain/desk build/native/slow build/native/terminal" \
 	    "tests/install.sh '$(LINKED_CC)' '$(LINKED_CXX)' '$(LINK_TO)' $(LIB)" \
 	    "build/native/trials build/trials" \
@@ -214,9 +221,10 @@ test: build/plain/header build/plain/header-cpp build/plain/desk build/plain/com
 SANITIZED = ASAN_OPTIONS=detect_leaks=0:exitcode=99 UBSAN_OPTIONS=exitcode=99
 
 test-sanitized: build/sanitized/desk build/sanitized/compare build/sanitized/text build/sanitized/fuzz \
-    build/native/trials $(FAULTY_DESKS)
+    build/native/trials build/native/followed $(FAULTY_DESKS)
 	@$(SANITIZED) tests/all.sh build/sanitized/text \
 	    "tests/desk.sh build/sanitized/desk $(FAULTY_DESKS)" \
+	    "tests/trace.sh build/sanitized/desk build/native/deaf build/native/followed $(SANITIZED_DRAWS)" \
 	    "build/sanitized/fuzz examples --inputs $(FUZZ_INPUTS)" \
 	    "build/native/trials build/trials" \
 	    "tests/clean.sh build/sanitized/compare calls --trials build/trials --machines 2 --cell-stride 200 --text-stride 10 --xref-stride 20" \
