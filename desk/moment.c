@@ -23,23 +23,34 @@ enum work work_of(uint8_t event, const struct state *before, const struct state 
 
 /* ---- A line ---- */
 
-/* A line of the listing in brackets; and the cells that are first looked at together, since most events change few. */
-enum { AT_ROOM = GALHOVEIA_LINE_BYTES_MOST + 2, CELLS_TOGETHER = 64 };
+/* A line of the listing in brackets; the columns of a mode with the blanks behind it; the blanks between changes; and
+   the cells that are first looked at together, since most events change few. */
+enum { AT_ROOM = GALHOVEIA_LINE_BYTES_MOST + 2, MODE_COLUMNS = 9, BETWEEN = 2, CELLS_TOGETHER = 64 };
 
 void show_moments_head(FILE *to)
 {
-    fprintf(to, "   event  what       at  word instruction    PC  AC CY mode     changes, before -> after\n");
+    fprintf(to, "   event  what       at  word instruction  PC  AC CY  mode     changes, before -> after\n");
 }
 
-static void show_work(FILE *to, enum work work, const struct state *after)
+/* The blanks that are due before what comes next, if anything does, so that no line ends in them. */
+static void show_blanks(FILE *to, int *due)
 {
-    if (work == INTERRUPTS)
-        fprintf(to, "  interrupt to $%03X", two(after->record + GALHOVEIA_RECORD_PC));
-    else if (work == SLEEPS)
-        fprintf(to, "  asleep");
+    fprintf(to, "%*s", *due, "");
+    *due = BETWEEN;
 }
 
-static void show_differences(FILE *to, const struct moment *moment)
+static void show_work(FILE *to, enum work work, const struct state *after, int *due)
+{
+    if (work != INTERRUPTS && work != SLEEPS)
+        return;
+    show_blanks(to, due);
+    if (work == INTERRUPTS)
+        fprintf(to, "interrupt to $%03X", two(after->record + GALHOVEIA_RECORD_PC));
+    else
+        fprintf(to, "asleep");
+}
+
+static void show_differences(FILE *to, const struct moment *moment, int *due)
 {
     const uint8_t *before = moment->before.memory, *after = moment->after.memory;
     const uint8_t *pins_before = moment->before.record + GALHOVEIA_RECORD_PINS;
@@ -49,12 +60,16 @@ static void show_differences(FILE *to, const struct moment *moment)
         if (memcmp(before + from, after + from, CELLS_TOGETHER) == 0)
             continue;
         for (unsigned cell = from; cell < from + CELLS_TOGETHER; cell++)
-            if (before[cell] != after[cell])
-                fprintf(to, "  $%03X %X -> %X", cell, before[cell], after[cell]);
+            if (before[cell] != after[cell]) {
+                show_blanks(to, due);
+                fprintf(to, "$%03X %X -> %X", cell, before[cell], after[cell]);
+            }
     }
     for (int port = 0; port < PORTS; port++)
-        if (pins_before[port] != pins_after[port])
-            fprintf(to, "  pins %c %X -> %X", 'A' + port, pins_before[port], pins_after[port]);
+        if (pins_before[port] != pins_after[port]) {
+            show_blanks(to, due);
+            fprintf(to, "pins %c %X -> %X", 'A' + port, pins_before[port], pins_after[port]);
+        }
 }
 
 void show_moment(FILE *to, const struct book *book, const struct moment *moment)
@@ -62,15 +77,17 @@ void show_moment(FILE *to, const struct book *book, const struct moment *moment)
     static const char *const modes[] = {"running", "HALT", "STOP"};
     const enum work work = work_of(moment->event, &moment->before, &moment->after);
     const uint8_t *record = moment->after.record;
+    const char *mode = modes[record[GALHOVEIA_RECORD_MODE]];
     char word[EVENT_WORD_ROOM], at[AT_ROOM];
+    int due = MODE_COLUMNS - (int)strlen(mode);
 
     snprintf(at, sizeof at, work == EXECUTES ? " %s" : "(%s)",
              book->lines.at[two(moment->before.record + GALHOVEIA_RECORD_PC)]);
-    fprintf(to, "%8llu  %-8s  %-22s %03X  %X  %u  %-7s", (unsigned long long)moment->place,
+    fprintf(to, "%8llu  %-8s  %-22s %03X  %X  %u  %s", (unsigned long long)moment->place,
             event_word(moment->event, word), at, two(record + GALHOVEIA_RECORD_PC), record[GALHOVEIA_RECORD_AC],
-            record[GALHOVEIA_RECORD_CY], modes[record[GALHOVEIA_RECORD_MODE]]);
-    show_work(to, work, &moment->after);
-    show_differences(to, moment);
+            record[GALHOVEIA_RECORD_CY], mode);
+    show_work(to, work, &moment->after, &due);
+    show_differences(to, moment, &due);
     fprintf(to, "\n");
 }
 

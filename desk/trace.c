@@ -31,6 +31,8 @@ static bool see(void *with, const struct moment *moment)
 
     if (trace->wanted->lines)
         show_moment(stdout, trace->whole.book, moment);
+    if (ferror(stdout))
+        end_command(WRONG_USE); /* which says that the output could not be written */
     if (trace->wanted->vcd != NULL)
         dump_moment(&trace->dump, moment);
     return true;

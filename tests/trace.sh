@@ -12,10 +12,9 @@ events_of() {
     grep '^ *[0-9][0-9]*  [a-z]' "$1"
 }
 
-# shows: the last run's output, but for blanks at the ends of lines, is what stands in the file wanted.
+# shows: the last run's output is what stands in the file wanted.
 shows() {
-    sed 's/ *$//' out >shown
-    if cmp -s shown wanted; then ok; else wrong "$said:"; diff wanted shown; fi
+    if cmp -s out wanted; then ok; else wrong "$said:"; diff wanted out; fi
 }
 
 echo "trace: help and wrong use"
@@ -85,7 +84,7 @@ printf 'high $020 low $021 ground 2' >small.level
 ends 0 book make events.book events.asm small.wiring small.level
 printf 'cycle*3 b=6 c=A d=F sound base watchdog cycle*2 a=1 cycle*8 a=0 a=1 cycle*6' >events.script
 cat >whole <<'END'
-   event  what       at  word instruction    PC  AC CY mode     changes, before -> after
+   event  what       at  word instruction  PC  AC CY  mode     changes, before -> after
        0  cycle      000 E010 JMP 010      010  0  0  running
        1  cycle      010 7A93 LDI 013 5    011  5  0  running  $013 4 -> 5
        2  cycle      011 7C00 LDI 000 8    012  8  0  running  $000 0 -> 8
@@ -130,7 +129,7 @@ END
 ends 0 book make resets.book resets.asm small.wiring small.level
 printf 'cycle*2 reset cycle*3 watchdog cycle' >resets.script
 cat >wanted <<'END'
-   event  what       at  word instruction    PC  AC CY mode     changes, before -> after
+   event  what       at  word instruction  PC  AC CY  mode     changes, before -> after
        0  cycle      000 7BA0 LDI 020 7    001  7  0  running  $020 0 -> 7
        1  cycle      001 4620 ADI 020 C    002  3  1  running
        2  reset     (002 7B9E LDI 01E 7)   000  0  0  running
@@ -152,7 +151,7 @@ says out '       6  watchdog  (003 FFFF NOP)         003  7  1  running'
 printf '$00 $4A $01' >numbered.script
 printf '\000\112\001' >numbered.bytes
 cat >wanted <<'END'
-   event  what       at  word instruction    PC  AC CY mode     changes, before -> after
+   event  what       at  word instruction  PC  AC CY  mode     changes, before -> after
        0  cycle      000 7BA0 LDI 020 7    001  7  0  running  $020 0 -> 7
        1  d=A       (001 4620 ADI 020 C)   001  7  0  running  pins D 0 -> A
        2  base      (001 4620 ADI 020 C)   001  7  0  running
@@ -166,7 +165,7 @@ ends 0 trace resets.book numbered.bytes --raw-script
 shows
 : >empty.script
 cat >wanted <<'END'
-   event  what       at  word instruction    PC  AC CY mode     changes, before -> after
+   event  what       at  word instruction  PC  AC CY  mode     changes, before -> after
 0 of 0 events done, none shown; stopped at the script's end
 PC $000, AC 0, CY 0, running
 sound channel 1: output 0, count 0; channel 2: output 0, count 0
@@ -181,9 +180,8 @@ echo "trace: some of the events"
 part() {
     ends "$4" trace events.book events.script --from "$1" --count "$2"
     events_of out >got
-    sed -n "$(($1 + 2)),$(($1 + 1 + $3))p" whole | sed 's/ *$//' >wanted
-    sed 's/ *$//' got >shown
-    same shown wanted
+    sed -n "$(($1 + 2)),$(($1 + 1 + $3))p" whole >wanted
+    same got wanted
     says out "$(($1 + $3)) of 28 events done, $3 shown, $1 to $(($1 + $3 - 1))"
 }
 for from in 0 1 9 12 26; do
