@@ -31,8 +31,10 @@ static bool see(void *with, const struct moment *moment)
 
     if (trace->wanted->lines)
         show_moment(stdout, trace->whole.book, moment);
-    if (ferror(stdout))
-        end_command(WRONG_USE); /* which says that the output could not be written */
+    if (ferror(stdout)) { /* as the command's end says */
+        end_progress();
+        end_command(WRONG_USE);
+    }
     if (trace->wanted->vcd != NULL)
         dump_moment(&trace->dump, moment);
     return true;
