@@ -52,6 +52,24 @@ case $(tail -c 4 out) in *"$(printf '\r\033[K')") ok ;; *) wrong "$said: what is
 at 0 '' sh -c '"$1" run busy.book seconds.script --watch 021 2>told' sh "$desk"
 if [ -s told ]; then wrong "$said: something is told"; else ok; fi
 says_not out 'events looked at'
+# A trace whose lines go elsewhere tells of it, also one that has none; where they are seen, they tell enough.
+at $interrupted 'expect events traced, 1 s
+key C-c
+' sh -c 'exec "$1" trace busy.book long.script >shown' sh "$desk"
+says out ' of 40000000 events traced, 1 s'
+ends 0 trace busy.book "$script" --vcd kept.vcd
+cp kept.vcd before.vcd
+at $interrupted 'expect events traced, 1 s
+key C-c
+' "$desk" trace busy.book long.script --vcd kept.vcd --force
+says_not out 'ADIM'
+same kept.vcd before.vcd
+no_parts
+at $interrupted 'expect ADIM 020 1
+wait 1.5
+key C-c
+' "$desk" trace busy.book long.script
+says_not out 'events traced'
 
 echo "terminal: ctrl-C while a file is written"
 ends 0 fresh kept.state
@@ -66,6 +84,11 @@ at $interrupted 'wait 0.7
 key C-c
 ' "$slow" fresh new.state
 absent new.state
+no_parts
+at $interrupted 'wait 0.7
+key C-c
+' "$slow" trace busy.book "$script" --vcd kept.vcd --force --options 1
+same kept.vcd before.vcd
 no_parts
 # It was met half way: without ctrl-C it is written.
 at 0 '' "$slow" fresh kept.state --options 3 --force
