@@ -327,8 +327,8 @@ static const struct command commands[] = {
      "the trace (refusal 6); what was shown before it stands.\n"
      "--vcd writes the same events as a value change dump, which GTKWave opens: PC, AC, CY and mode, the pins and the\n"
      "cells of ports A to D, Timer0's counter, the level's digits and what the sound channels put out. A time unit is a\n"
-     "cycle: what an event leaves stands at the number of cycles done so far, those before --from among them. With --vcd\n"
-     "the lines are shown only if --lines is given.\n",
+     "cycle: what an event leaves stands at the number of cycles done so far, those before --from among them. A dump has\n"
+     "1,073,741,824 bytes at the most. With --vcd the lines are shown only if --lines is given.\n",
      run_texts, work_trace},
     {"run-two", "run-two BOOK SCRIPT [--stop0 HEX] [--state0 FILE | --options0 N] [--save0 FILE]\n"
                 "                    [--stop1 HEX] [--state1 FILE | --options1 N] [--save1 FILE]\n"
