@@ -65,7 +65,7 @@ echo "install: below a prefix"
 prefix=$work/usr
 mkdir -p "$prefix/bin" "$prefix/share/galhoveia"
 echo kept >"$prefix/bin/other"
-ends 0 make -s install PREFIX="$prefix"
+ends 0 make -s install LIB="$archive" PREFIX="$prefix"
 for file in $installed; do
     check [ -f "$prefix/$file" ]
     says out "$prefix/$file"
@@ -156,32 +156,32 @@ fi
 
 echo "install: taken away again"
 cd "$repository" || exit 2
-ends 0 make -s uninstall PREFIX="$prefix"
+ends 0 make -s uninstall LIB="$archive" PREFIX="$prefix"
 said="make uninstall PREFIX=$prefix"
 check [ "$(find "$prefix" -type f)" = "$prefix/bin/other" ]
 lacks "$prefix/share/galhoveia"
-ends 0 make -s uninstall PREFIX="$prefix"
+ends 0 make -s uninstall LIB="$archive" PREFIX="$prefix"
 
 # ---- In a package's folder; a prefix with a blank; no path ----
 
 echo "install: in a package's folder"
-ends 0 make -s install DESTDIR="$work/package" PREFIX="/nowhere at all/lift"
+ends 0 make -s install LIB="$archive" DESTDIR="$work/package" PREFIX="/nowhere at all/lift"
 for file in $installed; do check [ -f "$work/package/nowhere at all/lift/$file" ]; done
 lacks "/nowhere at all"
 check grep -qxF 'prefix=/nowhere\ at\ all/lift' "$work/package/nowhere at all/lift/lib/pkgconfig/galhoveia.pc"
-ends 0 make -s uninstall DESTDIR="$work/package" PREFIX="/nowhere at all/lift"
+ends 0 make -s uninstall LIB="$archive" DESTDIR="$work/package" PREFIX="/nowhere at all/lift"
 check [ -z "$(find "$work/package" -type f)" ]
-ends 0 make -s install PREFIX="$work/with blank"
+ends 0 make -s install LIB="$archive" PREFIX="$work/with blank"
 cd "$work" || exit 2
 compiled "$compile_c -std=c11" level.c "$work/with blank"
 cd "$repository" || exit 2
-runs make -s install PREFIX=relative
+runs make -s install LIB="$archive" PREFIX=relative
 check [ "$status" != 0 ]
 says err "PREFIX is a path from / on, not 'relative'"
 lacks relative
 # Where nothing may be written, it is told and make fails.
 echo taken >"$work/file"
-runs make -s install PREFIX="$work/file"
+runs make -s install LIB="$archive" PREFIX="$work/file"
 check [ "$status" != 0 ]
 check [ -s "$work/err" ]
 
