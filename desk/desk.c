@@ -476,8 +476,10 @@ static enum status work_line(void *with)
         return commands[at].work(&commands[at], argc - 1 - taken, argv + 1 + taken);
     }
     if (argc > 1)
-        fprintf(stderr, "desk: no such command: %s%s%s\n", argv[1], argc > 2 ? " " : "", argc > 2 ? argv[2] : "");
-    print_overview(stderr);
+        fprintf(stderr, "desk: no such command: %s%s%s\ndesk --help names them\n", argv[1], argc > 2 ? " " : "",
+                argc > 2 ? argv[2] : "");
+    else
+        print_overview(stderr);
     return WRONG_USE;
 }
 
