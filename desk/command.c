@@ -51,12 +51,9 @@ void take_words(const struct command *command, int count, char **words, const st
 
 uint32_t hex_from(const struct command *command, const char *text)
 {
-    char with_mark[64];
     unsigned long long number;
-    bool marked = text[0] == '$' || strncmp(text, "0x", 2) == 0 || strncmp(text, "0X", 2) == 0;
 
-    if (snprintf(with_mark, sizeof with_mark, "%s%s", marked ? "" : "$", text) >= (int)sizeof with_mark
-        || !number_from(with_mark, strlen(with_mark), UINT32_MAX, &number))
+    if (!hex_from_text(text, UINT32_MAX, &number))
         wrong_use(command, "not a hex number up to FFFFFFFF:", text);
     return (uint32_t)number;
 }

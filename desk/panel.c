@@ -187,32 +187,46 @@ const char *mode_words(const struct state *state)
     return modes[state->record[GALHOVEIA_RECORD_MODE]];
 }
 
+void show_processor(const struct state *state)
+{
+    const uint8_t *record = state->record;
+
+    printf("PC $%03X, AC %u, CY %u, %s", two(record + GALHOVEIA_RECORD_PC), record[GALHOVEIA_RECORD_AC],
+           record[GALHOVEIA_RECORD_CY], mode_words(state));
+}
+
 void show_registers(const struct state *state)
 {
     const uint8_t *record = state->record;
 
-    printf("PC $%03X, AC %u, CY %u, %s\n", two(record + GALHOVEIA_RECORD_PC), record[GALHOVEIA_RECORD_AC],
-           record[GALHOVEIA_RECORD_CY], mode_words(state));
-    printf("sound channel 1: output %u, count %u; channel 2: output %u, count %u\n", record[GALHOVEIA_RECORD_OUTPUT_1],
+    show_processor(state);
+    printf("\nsound channel 1: output %u, count %u; channel 2: output %u, count %u\n", record[GALHOVEIA_RECORD_OUTPUT_1],
            two(record + GALHOVEIA_RECORD_COUNT_1), record[GALHOVEIA_RECORD_OUTPUT_2],
            two(record + GALHOVEIA_RECORD_COUNT_2));
     if (record[GALHOVEIA_RECORD_FROZEN_MARK])
         printf("Timer0's low nibble is frozen as %u until $004 is read\n", record[GALHOVEIA_RECORD_FROZEN]);
 }
 
-bool ask_writers(const struct book *book, uint32_t cell, struct writers *writers)
+uint32_t list_writers(const struct book *book, uint32_t cell, struct writers *writers, uint64_t *value)
 {
     uint8_t addresses[GALHOVEIA_PROGRAM_BYTES];
-    uint64_t count = 0, value = 0;
+    uint64_t count = 0;
     uint32_t refusal = galhoveia_list(book->program.at, book->program.length, cell, addresses, sizeof addresses,
-                                      &count, &value);
+                                      &count, value);
 
-    if (refusal != GALHOVEIA_DONE) {
+    if (refusal == GALHOVEIA_DONE)
+        take_writers(writers, addresses, count);
+    return refusal;
+}
+
+bool ask_writers(const struct book *book, uint32_t cell, struct writers *writers)
+{
+    uint64_t value = 0;
+    uint32_t refusal = list_writers(book, cell, writers, &value);
+
+    if (refusal != GALHOVEIA_DONE)
         say_refusal("the list of writers", refusal, value);
-        return false;
-    }
-    take_writers(writers, addresses, count);
-    return true;
+    return refusal == GALHOVEIA_DONE;
 }
 
 void take_writers(struct writers *writers, const uint8_t *addresses, uint64_t bytes)

@@ -45,12 +45,14 @@ extern const char *const digit_meaning[DIGITS];
 /* What is said behind a cell's number, nothing where it has no digit of the level. */
 const char *cell_meaning(const struct book *book, uint32_t cell);
 
-/* The addresses of the instructions that can change a cell, ascending; a refusal is said. */
+/* The addresses of the instructions that can change a cell, ascending. Answers 0 or the refusal, which is not said; or
+   whether there is none, which is said. */
 struct writers {
     uint16_t address[GALHOVEIA_WORDS];
     size_t count;
 };
 
+uint32_t list_writers(const struct book *book, uint32_t cell, struct writers *writers, uint64_t *value);
 bool ask_writers(const struct book *book, uint32_t cell, struct writers *writers);
 
 /* The same from so many bytes that the library wrote, two for each address. */
@@ -100,6 +102,7 @@ void show_list(const struct book *book, const struct writers *writers);
 const char *mode_words(const struct state *state);
 
 void show_book(const char *path, const struct book *book);
+void show_processor(const struct state *state); /* PC, AC, CY and mode, as a part of a line */
 void show_registers(const struct state *state);
 
 #endif

@@ -41,6 +41,15 @@ bool number_from(const char *text, size_t length, unsigned long long most, unsig
     return true;
 }
 
+bool hex_from_text(const char *text, unsigned long long most, unsigned long long *number)
+{
+    char with_mark[64];
+    bool marked = text[0] == '$' || strncmp(text, "0x", 2) == 0 || strncmp(text, "0X", 2) == 0;
+
+    return snprintf(with_mark, sizeof with_mark, "%s%s", marked ? "" : "$", text) < (int)sizeof with_mark
+           && number_from(with_mark, strlen(with_mark), most, number);
+}
+
 /* ---- Reading files ---- */
 
 struct bytes read_text(const char *path, size_t most, struct bytes (*from_text)(const char *, const char *))
@@ -67,7 +76,7 @@ struct bytes read_script(const char *path, bool raw, struct bytes (*from_text)(c
 /* ---- Reading words and lines ---- */
 
 struct reader {
-    const char *path;
+    const char *path; /* NULL where the text is no file's */
     const char *at;
     unsigned long line;
 };
@@ -82,6 +91,18 @@ static void skip_blanks(struct reader *reader)
         reader->line += *reader->at == '\n';
         reader->at++;
     }
+}
+
+/* The beginning of what is said of a line. */
+static const char *place_of(const struct reader *reader, unsigned long line)
+{
+    enum { NUMBER_ROOM = 32 };
+    size_t room = reader->path ? strlen(reader->path) + NUMBER_ROOM : 1;
+    char *place = take_memory(room, 1);
+
+    if (reader->path != NULL)
+        snprintf(place, room, "%s:%lu: ", reader->path, line);
+    return place;
 }
 
 static bool ends_word(char letter)
@@ -151,7 +172,7 @@ enum { NAMED = sizeof named / sizeof named[0] };
 
 static const char ports[] = "abcd";
 
-static bool event_from(const char *word, size_t length, uint8_t *event)
+bool event_from(const char *word, size_t length, uint8_t *event)
 {
     for (size_t at = 0; at < NAMED; at++)
         if (is_word(word, length, named[at].name)) {
@@ -188,7 +209,7 @@ const char *event_word(uint8_t event, char word[EVENT_WORD_ROOM])
 struct growing {
     struct reader reader;
     struct bytes script;
-    size_t room;
+    size_t room, most;
     struct {
         size_t from;
         unsigned long line;
@@ -230,7 +251,7 @@ static size_t times_of(const struct reader *reader, const char *part, size_t len
     if (name == length)
         return 1;
     if (part[name] != '*' || strspn(digits, "0123456789") < count || !number_from(digits, count, SCRIPT_MOST, &times))
-        fail("%s:%lu: %.*s: how many times? A decimal number up to %d stands after *", reader->path, reader->line,
+        fail("%s%.*s: how many times? A decimal number up to %d stands after *", place_of(reader, reader->line),
              (int)length, part, SCRIPT_MOST);
     return (size_t)times;
 }
@@ -248,9 +269,10 @@ static void repeat_from(struct growing *growing, size_t from, size_t times)
 {
     size_t once = growing->script.length - from, whole = once * times;
 
-    if (times > 0 && once > (SCRIPT_MOST - from) / times)
-        fail("%s:%lu: the script has more than %d %s", growing->reader.path, growing->reader.line,
-             growing->two_cars ? SCRIPT_MOST / 2 : SCRIPT_MOST, growing->two_cars ? "entries" : "events");
+    if (times > 0 && once > (growing->most - from) / times)
+        fail("%sthe %s has more than %zu %s", place_of(&growing->reader, growing->reader.line),
+             growing->reader.path ? "script" : "line", growing->two_cars ? growing->most / 2 : growing->most,
+             growing->two_cars ? "entries" : "events");
     make_room(growing, from + whole);
     for (size_t done = once; done < whole;) {
         size_t part = done < whole - done ? done : whole - done;
@@ -264,7 +286,7 @@ static void repeat_from(struct growing *growing, size_t from, size_t times)
 static void open_group(struct growing *growing)
 {
     if (growing->open == GROUPS_MOST)
-        fail("%s:%lu: more than %d groups stand in each other", growing->reader.path, growing->reader.line,
+        fail("%smore than %d groups stand in each other", place_of(&growing->reader, growing->reader.line),
              GROUPS_MOST);
     growing->group[growing->open].from = growing->script.length;
     growing->group[growing->open].line = growing->reader.line;
@@ -276,7 +298,7 @@ static void close_group(struct growing *growing, const char *part, size_t length
     size_t times;
 
     if (growing->open == 0)
-        fail("%s:%lu: %.*s closes a group that no ( opens", growing->reader.path, growing->reader.line, (int)length,
+        fail("%s%.*s closes a group that no ( opens", place_of(&growing->reader, growing->reader.line), (int)length,
              part);
     times = times_of(&growing->reader, part, length, 1);
     growing->open--;
@@ -333,7 +355,7 @@ static void add_events(struct growing *growing, const char *part, size_t length)
     if (growing->two_cars)
         need_car(growing, part, length);
     if (!event_from(part, name, &event))
-        fail("%s:%lu: %.*s is no event (desk %s --help lists them)", growing->reader.path, growing->reader.line,
+        fail("%s%.*s is no event (desk %s --help lists them)", place_of(&growing->reader, growing->reader.line),
              (int)length, part, growing->two_cars ? "run-two" : "run");
     times = times_of(&growing->reader, part, length, name);
     make_room(growing, from + 2);
@@ -343,10 +365,10 @@ static void add_events(struct growing *growing, const char *part, size_t length)
     repeat_from(growing, from, times);
 }
 
-static struct bytes events_from_text(const char *path, const char *text, bool two_cars)
+static struct bytes events_from_text(const char *path, const char *text, size_t most, bool two_cars)
 {
     struct growing growing = {
-        .reader = {path, text, 1}, .script = {take_memory(1, 1), 0}, .room = 1, .two_cars = two_cars};
+        .reader = {path, text, 1}, .script = {take_memory(1, 1), 0}, .room = 1, .most = most, .two_cars = two_cars};
     const char *part;
     size_t length;
 
@@ -364,19 +386,25 @@ static struct bytes events_from_text(const char *path, const char *text, bool tw
             add_events(&growing, part, length);
     }
     if (growing.open > 0)
-        fail("%s:%lu: the group that begins here has no ) at its end", path, growing.group[growing.open - 1].line);
+        fail("%sthe group that begins here has no ) at its end",
+             place_of(&growing.reader, growing.group[growing.open - 1].line));
     end_car(&growing);
     return growing.script;
 }
 
 struct bytes script_from_text(const char *path, const char *text)
 {
-    return events_from_text(path, text, false);
+    return events_from_text(path, text, SCRIPT_MOST, false);
+}
+
+struct bytes events_from_line(const char *line, size_t most)
+{
+    return events_from_text(NULL, line, most, false);
 }
 
 struct bytes two_cars_from_text(const char *path, const char *text)
 {
-    return events_from_text(path, text, true);
+    return events_from_text(path, text, SCRIPT_MOST, true);
 }
 
 /* ---- Wirings ---- */
