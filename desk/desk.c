@@ -2,6 +2,7 @@
 #include "desk.h"
 
 #include "command.h"
+#include "debug.h"
 #include "demo.h"
 #include "drawing.h"
 #include "explain.h"
@@ -288,6 +289,7 @@ static enum status work_book_make(const struct command *command, int count, char
 /* ---- Help ---- */
 
 static const char *const run_texts[] = {script_help, NULL};
+static const char *const debug_texts[] = {debug_words_help, script_help, NULL};
 static const char *const run_two_texts[] = {two_cars_help, NULL};
 static const char *const listing_texts[] = {listing_help, NULL};
 static const char *const make_texts[] = {program_help, wiring_help, level_help, NULL};
@@ -342,6 +344,15 @@ static const struct command commands[] = {
      "Both panels are shown side by side, with their levels, drawn as desk picture --help tells, with 8 elements in a row\n"
      "if --columns is not given. Where a level is refused (9), the panels are shown all the same.\n",
      run_two_texts, work_run_two},
+    {"debug", "debug BOOK [--state FILE | --options N] [--script FILE [--raw-script]] [--digits N] [--columns N]\n"
+              "                  [--echo]",
+     "goes through a chip's events step by step, by words that are typed or piped in",
+     "The chip is fresh, or as in the state FILE. Each line read is a word with what belongs to it, or events of a\n"
+     "script; # begins a comment. What is wrong with a line is said, changes nothing, and the session goes on; quit or\n"
+     "the end of input ends it, with status 0. At a terminal there is a prompt, ctrl-C breaks off a run or the line that\n"
+     "is being typed, and an empty line does the last step, run, to or until again. --echo shows prompt and lines also\n"
+     "where they are piped in, so that a session can be recorded. --digits and --columns are for the word panel.\n",
+     debug_texts, work_debug},
     {"level", "level BOOK STATE", "tells the level that a state's panel stands at", STATE_HELP, NULL, work_level},
     {"picture", "picture BOOK STATE [--digits N] [--columns N] [--raw]", "draws what a state's panel shows",
      "# is lit, . is dark, in the order of the wiring. With --digits N the first 7N elements are drawn as N\n"

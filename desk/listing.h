@@ -12,6 +12,9 @@ enum { LINE_MNEMONIC = 9 };
 /* What stands behind a line's word, with a 0 at its end. */
 enum { TEXT_ROOM = GALHOVEIA_LINE_BYTES_MOST - LINE_MNEMONIC };
 
+/* The word of NOP with which a program is filled up. */
+enum { NOP_WORD = 0xFFFF };
+
 /* Each address's line, with a 0 in place of its line feed. */
 struct lines {
     char at[GALHOVEIA_WORDS][GALHOVEIA_LINE_BYTES_MOST];

@@ -5,7 +5,7 @@
 
 #include <string.h>
 
-enum { STATE_BYTES = GALHOVEIA_MEMORY_BYTES + GALHOVEIA_RECORD_BYTES, NOP = 0xFFFF };
+enum { STATE_BYTES = GALHOVEIA_MEMORY_BYTES + GALHOVEIA_RECORD_BYTES };
 
 /* Earlier versions wrote states whose record ended where fields were added after them. */
 static const struct {
@@ -293,7 +293,7 @@ void show_book(const char *path, const struct book *book)
 
     for (unsigned address = 0; address < GALHOVEIA_WORDS; address++) {
         unlisted += is_data(book->lines.at[address]);
-        blank += two(book->program.at + 2 * address) == NOP;
+        blank += two(book->program.at + 2 * address) == NOP_WORD;
     }
     printf("%s is a good book of %zu bytes\n", path, book->file.length);
     printf("  program: %d words, of these %u NOP and %u that are no instruction\n", GALHOVEIA_WORDS, blank, unlisted);

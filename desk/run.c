@@ -17,8 +17,8 @@ uint32_t run_part(const struct book *book, struct state *state, struct bytes eve
                          sizeof state->record, events.at, events.length, stop, reason, done, value);
 }
 
-/* As the library answers of each byte to a chip just switched on. */
-bool all_events_known(const struct book *book, struct bytes events)
+/* Whether every byte is an event, as the library answers of each to a chip just switched on. */
+static bool all_events_known(const struct book *book, struct bytes events)
 {
     bool met[BYTES_ALL] = {false};
     struct state fresh;
@@ -31,6 +31,18 @@ bool all_events_known(const struct book *book, struct bytes events)
                           || step_once(book, &fresh, (uint8_t)byte, &value) == GALHOVEIA_UNKNOWN_EVENT))
             return false;
     return true;
+}
+
+uint32_t judge_events(const struct book *book, const struct state *state, struct bytes events, uint64_t *value)
+{
+    struct state copy = *state;
+    uint32_t reason;
+    uint64_t done;
+
+    *value = 0;
+    if (all_events_known(book, events))
+        return GALHOVEIA_DONE;
+    return run_part(book, &copy, events, GALHOVEIA_NO_STOP, &reason, &done, value);
 }
 
 /* Part by part it is the same run, since the first part that stops is the last. A script with a byte that is no event

@@ -28,8 +28,10 @@ void show_stop(uint32_t reason, uint32_t stop, const struct state *state);
 uint32_t run_part(const struct book *book, struct state *state, struct bytes events, uint32_t stop, uint32_t *reason,
                   uint64_t *done, uint64_t *value);
 
-/* Whether every byte of a script is an event, so that any part of it runs as it would in the whole. */
-bool all_events_known(const struct book *book, struct bytes events);
+/* Judges events before any of them happens. Answers 0 where every byte is an event, so that any part of them runs as it
+   would in the whole; else what the library answers to all of them, of which it then lets none happen. The refusal is
+   not said. */
+uint32_t judge_events(const struct book *book, const struct state *state, struct bytes events, uint64_t *value);
 
 /* Lets one event happen. Answers 0 or the refusal, which is not said. */
 uint32_t step_once(const struct book *book, struct state *state, uint8_t event, uint64_t *value);

@@ -106,25 +106,11 @@ static void show_end(const struct trace *trace)
 
 /* ---- The trace ---- */
 
-/* Judges the whole script before anything moves. Answers 0, or the refusal where a byte of it is no event: the library
-   is then lent all of it, and does none. */
-static uint32_t judge_script(const struct run *whole, uint64_t *value)
-{
-    struct state start = whole->start;
-    uint32_t reason;
-    uint64_t done;
-
-    *value = 0;
-    if (all_events_known(whole->book, whole->events))
-        return GALHOVEIA_DONE;
-    return run_part(whole->book, &start, whole->events, GALHOVEIA_NO_STOP, &reason, &done, value);
-}
-
 static enum status trace_events(struct trace *trace)
 {
     struct run *lead = &trace->lead, *shown = &trace->shown;
     uint64_t value;
-    uint32_t refusal = judge_script(&trace->whole, &value);
+    uint32_t refusal = judge_events(trace->whole.book, &trace->whole.start, trace->whole.events, &value);
     bool faultless = true;
 
     if (refusal == GALHOVEIA_DONE)

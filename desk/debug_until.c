@@ -1,0 +1,169 @@
+/* The debugger's until: event by event until a cell changes, and what changed it. */
+#include "debug_run.h"
+#include "interrupt.h"
+#include "progress.h"
+#include "texts.h"
+#include "watch.h"
+
+#include <stdio.h>
+#include <string.h>
+
+/* What is waited for: a change of watched cells, which have lists of writers; or, where none is watched, of one bit or
+   all bits of a register. */
+struct awaited {
+    struct watch watch;
+    struct asked of;
+};
+
+static unsigned bits_of(struct asked asked)
+{
+    return asked.bit == BITS ? (1u << BITS) - 1 : 1u << asked.bit;
+}
+
+static bool is_come(const struct awaited *awaited, const struct moment *moment)
+{
+    unsigned cell = awaited->of.cell;
+
+    if (awaited->watch.count > 0)
+        return changes_watched(&awaited->watch, moment);
+    return ((moment->before.memory[cell] ^ moment->after.memory[cell]) & bits_of(awaited->of)) != 0;
+}
+
+/* ---- What changed a register ---- */
+
+/* What the cell would be after the same cycle with NOP in place of the instruction, so without what that one does. */
+static unsigned without_instruction(const struct book *book, const struct moment *moment, unsigned cell)
+{
+    unsigned address = two(moment->before.record + GALHOVEIA_RECORD_PC);
+    uint8_t program[GALHOVEIA_PROGRAM_BYTES];
+    const struct book changed = {.program = {program, sizeof program}};
+    struct state state = moment->before;
+    uint64_t value;
+
+    memcpy(program, book->program.at, sizeof program);
+    program[2 * address] = NOP_WORD >> 8;
+    program[2 * address + 1] = NOP_WORD & 0xFF;
+    step_once(&changed, &state, moment->event, &value);
+    return state.memory[cell];
+}
+
+static void show_executed(const struct book *book, const struct moment *moment, unsigned cell)
+{
+    unsigned idle = without_instruction(book, moment, cell);
+    const char *line = book->lines.at[two(moment->before.record + GALHOVEIA_RECORD_PC)];
+
+    if (idle == moment->after.memory[cell])
+        printf("the cycle itself, not by  %s\n", line);
+    else if (idle == moment->before.memory[cell])
+        printf("%s\n", line);
+    else
+        printf("%s  and by the cycle itself\n", line);
+}
+
+static void show_cause(const struct book *book, const struct moment *moment, unsigned cell)
+{
+    char word[EVENT_WORD_ROOM];
+
+    show_difference(moment->place, cell, moment->before.memory[cell], moment->after.memory[cell]);
+    switch (work_of(moment->event, &moment->before, &moment->after)) {
+    case EXECUTES:
+        show_executed(book, moment, cell);
+        break;
+    case INTERRUPTS:
+        printf("an interrupt, taken to $%03X\n", two(moment->after.record + GALHOVEIA_RECORD_PC));
+        break;
+    case SLEEPS:
+        printf("the cycle itself, asleep\n");
+        break;
+    case HAPPENS:
+        printf("the event %s\n", event_word(moment->event, word));
+        break;
+    }
+}
+
+/* ---- The run ---- */
+
+static void show_come(const struct debugger *debugger, struct awaited *awaited, const struct moment *moment)
+{
+    end_progress();
+    if (awaited->watch.count == 0)
+        show_cause(debugger->book, moment, awaited->of.cell);
+    else if (!find_change(&awaited->watch, debugger->book, moment, show_change, NULL))
+        ask_report();
+    show_where(debugger);
+}
+
+static void run_until(struct debugger *debugger, struct awaited *awaited, uint64_t most)
+{
+    struct moment moment;
+    uint64_t done = 0;
+
+    begin_progress("events looked at", most);
+    while (done < most && !break_asked()) {
+        if (!step_ahead(debugger, &moment))
+            break;
+        progress_at(++done);
+        if (is_come(awaited, &moment)) {
+            show_come(debugger, awaited, &moment);
+            return;
+        }
+    }
+    end_progress();
+    show_done(done);
+    printf(" without a change%s\n", done < most && break_asked() ? "; stopped by ctrl-C" : "");
+    show_where(debugger);
+}
+
+/* ---- What is waited for ---- */
+
+/* Says of which watched cells no change can come. Answers whether one can of any. */
+static bool can_come(const struct watch *watch)
+{
+    bool can = false;
+
+    for (size_t at = 0; at < watch->count; at++) {
+        const struct watched *watched = &watch->cells[at];
+
+        can = can || watched->writers > 0;
+        if (watched->writers == 0) {
+            show_head(watched->cell, watched->meaning, 0);
+            printf("\n");
+        }
+    }
+    return can;
+}
+
+/* Begins to wait for a cell. Answers whether a change of it can come; where it cannot, that is said. */
+static bool await_cell(const struct debugger *debugger, struct awaited *awaited)
+{
+    const struct book *book = debugger->book;
+    unsigned cell = awaited->of.cell;
+    struct writers writers;
+    uint64_t value;
+
+    if (list_writers(book, cell, &writers, &value) != GALHOVEIA_ASKED_CELL)
+        return watch_cell(&awaited->watch, book, cell, cell_meaning(book, cell)) && can_come(&awaited->watch);
+    if ((bits_kept(debugger, cell) & bits_of(awaited->of)) == 0) {
+        printf("cell $%03X keeps nothing in memory, so it never changes%s\n", cell,
+               cell == 0x004 || cell == 0x005 ? "; registers tells Timer0's counter" : "");
+        return false;
+    }
+    return true;
+}
+
+void do_until(struct debugger *debugger, const struct typed *typed)
+{
+    struct awaited awaited = {.watch = {.count = 0}};
+    bool can;
+
+    if (typed->count > 1)
+        number_at(debugger, typed, 1); /* before anything is said of the cell */
+    if (is_argument(typed, 0, "level")) {
+        can = watch_level(&awaited.watch, debugger->book) && can_come(&awaited.watch);
+    } else {
+        awaited.of = cell_at(typed, 0);
+        can = await_cell(debugger, &awaited);
+    }
+    if (can)
+        run_until(debugger, &awaited, events_at(debugger, typed, 1));
+}
