@@ -2,6 +2,7 @@
 #   make demo            builds what is missing and runs the main job on the example book
 #   make test            all tests of the C side; the last line tells how many passed and failed
 #   make test-sanitized  the same with the address and undefined-behaviour sanitizers, with fewer events
+#   make recording       writes docs/debugger.txt, a recorded session of desk debug over the example
 #   make fuzz            bad input in bulk, sanitized, for SECONDS (60); make fuzz SECONDS=600 SEED=7 other inputs, for longer
 #   make wrong           tries every wrong answer by itself, over the proved crates; make wrong CRATE=sh_map those of one crate
 #   make bench           speed beside the second emulator, natively; make bench BEFORE=old/libhost.a also beside an
@@ -91,6 +92,11 @@ desk: build/plain/desk
 
 demo: build/plain/desk
 	build/plain/desk demo examples
+
+RECORDED = debug examples/dispatcher.book --script examples/dispatcher.script --digits 2 --echo
+
+recording: build/plain/desk
+	build/plain/desk $(RECORDED) <examples/dispatcher.debug >docs/debugger.txt 2>&1
 
 # ---- Objects: linked with the library, native, native with sanitizers, and native for the bench ----
 
@@ -210,6 +216,7 @@ test: build/plain/header build/plain/header-cpp build/plain/desk build/plain/com
     build/native/trials build/native/slow build/native/terminal build/native/followed $(STACK) $(FAULTY_DESKS)
 	@tests/all.sh tests/newcomer.sh "tests/header.sh $(CC) $(CXX)" build/plain/header build/plain/header-cpp \
 	    build/plain/text "tests/desk.sh build/plain/desk $(FAULTY_DESKS)" \
+	    "tests/debug.sh build/plain/desk build/native/forgetful" \
 	    "tests/trace.sh build/plain/desk build/native/deaf build/native/followed $(DRAWS)" $(STACK_TEST) \
 	    "tests/terminal.sh build/plain/desk build/native/slow build/native/terminal" \
 	    "tests/install.sh '$(LINKED_CC)' '$(LINKED_CXX)' '$(LINK_TO)' $(LIB)" \
@@ -224,6 +231,7 @@ test-sanitized: build/sanitized/desk build/sanitized/compare build/sanitized/tex
     build/native/trials build/native/followed $(FAULTY_DESKS)
 	@$(SANITIZED) tests/all.sh build/sanitized/text \
 	    "tests/desk.sh build/sanitized/desk $(FAULTY_DESKS)" \
+	    "tests/debug.sh build/sanitized/desk build/native/forgetful" \
 	    "tests/trace.sh build/sanitized/desk build/native/deaf build/native/followed $(SANITIZED_DRAWS)" \
 	    "build/sanitized/fuzz examples --inputs $(FUZZ_INPUTS)" \
 	    "build/native/trials build/trials" \
@@ -268,5 +276,5 @@ stack: $(STACK) $(BENCH_LIB)
 clean:
 	rm -rf build
 
-.PHONY: all archive desk demo test test-sanitized fuzz install uninstall wrong bench build/bench/measure stack asked clean
+.PHONY: all archive desk demo recording test test-sanitized fuzz install uninstall wrong bench build/bench/measure stack asked clean
 .SECONDARY:

@@ -46,7 +46,8 @@ const char debug_words_help[] =
 static const struct word words[] = {
     {"step", "s", "step [N]",
      "Lets the next event happen, or the next N, and shows each by a line: the event's number, counted from 0, and\n"
-     "its word; the listing's line at PC before it; AC, CY and mode after it; and what it changed.\n"
+     "its word; the listing's line at PC before it, in brackets where it was not executed; PC, AC, CY and mode after\n"
+     "it; and what it changed.\n"
      NEXT_EVENTS, 0, 1, true, do_step},
     {"run", "r", "run [N]",
      "Lets the next N events happen, or without N the rest of the script, and tells where the chip then stands.\n"
