@@ -89,6 +89,8 @@ static void do_unit(struct worker *worker, uint64_t unit)
     seed_random(first_seed + unit * UINT64_C(0x9E3779B97F4A7C15));
     for (int warm = 0; warm < 8; warm++)
         any_64();
+    if (kinds[kind].begin != NULL)
+        kinds[kind].begin();
     for (int at = 0; at < UNIT_INPUTS; at++) {
         kinds[kind].input(&worker->outcome[kind]);
         worker->inputs++;
@@ -123,6 +125,7 @@ static void prepare(const struct worker *worker)
         finding("the folder %s cannot be entered", worker->folder);
     prepare_texts(examples);
     prepare_files();
+    prepare_lines(examples);
 }
 
 static void start(struct worker *worker, uint64_t first)
@@ -265,5 +268,6 @@ int main(int argc, char **argv)
     }
     take_kinds(text_kinds);
     take_kinds(file_kinds);
+    take_kinds(line_kinds);
     return do_units(first);
 }

@@ -47,13 +47,20 @@ struct kind_of_input {
     const char *name;
     unsigned weight; /* how many units in so many as the weights come to */
     void (*input)(struct outcome *outcome);
+    void (*begin)(void); /* before the first input of a unit; NULL for nothing */
 };
 
-extern const struct kind_of_input text_kinds[], file_kinds[]; /* each ended by one without a name */
+extern const struct kind_of_input text_kinds[], file_kinds[], line_kinds[]; /* each ended by one without a name */
 
 /* Reads the examples and makes the files that inputs are changed from, in the folder where it stands. */
 void prepare_texts(const char *examples);
 void prepare_files(void);
+void prepare_lines(const char *examples);
+
+/* Of the folder's files no kept.* may be harmed (said of what was done), and none but these and copy.* stays. What
+   --force may write over are copies, which are made again. */
+void look_at_folder(const char *said);
+void restore_copies(void);
 
 /* Says what must never be, and ends the worker. */
 _Noreturn void finding(const char *format, ...) __attribute__((format(printf, 1, 2)));

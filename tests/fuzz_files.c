@@ -64,7 +64,7 @@ static bool is_of(const char *name, const char *front)
 }
 
 /* No kept file is harmed, no part of a file is left, and what was made goes. */
-static void look_at_folder(const char *said)
+void look_at_folder(const char *said)
 {
     DIR *folder = opendir(".");
     struct dirent *entry;
@@ -83,7 +83,7 @@ static void look_at_folder(const char *said)
             finding("%s: %s was harmed", said, kept[at].name);
 }
 
-static void restore_copies(void)
+void restore_copies(void)
 {
     for (size_t at = 0; at < kept_count; at++)
         put_file(kept[at].copy, kept[at].good.at, kept[at].good.length);
@@ -323,9 +323,9 @@ static void input_words(struct outcome *outcome)
 }
 
 const struct kind_of_input file_kinds[] = {
-    {"books", 8, input_book},
-    {"states", 8, input_state},
-    {"files of texts", 8, input_text_file},
-    {"command lines", 8, input_words},
-    {NULL, 0, NULL},
+    {"books", 5, input_book, NULL},
+    {"states", 5, input_state, NULL},
+    {"files of texts", 5, input_text_file, NULL},
+    {"command lines", 6, input_words, NULL},
+    {NULL, 0, NULL, NULL},
 };

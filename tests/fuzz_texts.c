@@ -198,11 +198,11 @@ static void input_listing(struct outcome *outcome)
 }
 
 const struct kind_of_input text_kinds[] = {
-    {"scripts", 30, input_script},
-    {"scripts of two cars", 20, input_two_cars},
-    {"assembly", 15, input_assembly},
-    {"wirings", 12, input_wiring},
-    {"level bodies", 12, input_level},
-    {"listings", 8, input_listing},
-    {NULL, 0, NULL},
+    {"scripts", 30, input_script, NULL},
+    {"scripts of two cars", 20, input_two_cars, NULL},
+    {"assembly", 15, input_assembly, NULL},
+    {"wirings", 12, input_wiring, NULL},
+    {"level bodies", 12, input_level, NULL},
+    {"listings", 8, input_listing, NULL},
+    {NULL, 0, NULL, NULL},
 };
