@@ -25,7 +25,7 @@ says_not() {
 told='desk: '
 interrupted=130
 printf 'cycle*40000000' >long.script
-printf ' ORG 0\nhere: ADIM $020, 1\n LDA $020\n JMP here\n' >busy.asm
+printf ' ORG 0\nhere: ADIM $020, 1\n LDA $020\n JMP here\n LDI $021, 1\n' >busy.asm
 ends 0 book make busy.book busy.asm "$examples/dispatcher.wiring" "$examples/dispatcher.level"
 
 echo "terminal: progress"
@@ -70,6 +70,44 @@ wait 1.5
 key C-c
 ' "$desk" trace busy.book long.script
 says_not out 'events traced'
+
+echo "terminal: the debugger"
+# It has a prompt, tells its progress, and is back at the prompt by ctrl-C, with the events that were done.
+at 0 'expect help lists the words
+expect desk> 
+type until 021 1000000000
+expect events looked at, 1 s
+key C-c
+expect without a change; stopped by ctrl-C
+expect desk> 
+type run 1000000000
+expect  of 1000000000 events done, 1 s
+key C-c
+expect  events done of 1000000000; stopped by ctrl-C
+expect desk> 
+key C-c
+expect desk> 
+type level
+expect level 
+expect desk> 
+type back
+expect after 0 events
+type step
+expect ADIM 020 1
+type 
+expect LDA 020
+key C-d
+' "$desk" debug busy.book
+at 0 'expect desk> 
+type quit
+' "$desk" debug busy.book
+# Fed through a pipe it has none, and ctrl-C ends it.
+at 0 '' sh -c 'echo step | "$1" debug busy.book' sh "$desk"
+says out 'ADIM 020 1'
+says_not out 'desk>'
+at $interrupted 'expect events looked at, 1 s
+key C-c
+' sh -c 'echo "until 021 1000000000" | "$1" debug busy.book' sh "$desk"
 
 echo "terminal: ctrl-C while a file is written"
 ends 0 fresh kept.state
