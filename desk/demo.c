@@ -57,9 +57,7 @@ static enum status demo_run(struct run *run)
             return REFUSED;
         if (!show_strokes(&part))
             return FAULT;
-        part.start = part.end;
-        part.events.at += part.done;
-        part.events.length -= (size_t)part.done;
+        go_on(&part);
         printf("\n");
     }
 }

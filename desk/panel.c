@@ -85,11 +85,15 @@ bool write_book(const char *path, struct bytes program, struct bytes wiring, str
     return true;
 }
 
+uint32_t ask_fresh(struct state *state, uint32_t options, uint64_t *value)
+{
+    return galhoveia_fresh(state->memory, sizeof state->memory, state->record, sizeof state->record, options, value);
+}
+
 bool make_fresh(struct state *state, uint32_t options, const char *what)
 {
     uint64_t value = 0;
-    uint32_t refusal = galhoveia_fresh(state->memory, sizeof state->memory, state->record, sizeof state->record,
-                                       options, &value);
+    uint32_t refusal = ask_fresh(state, options, &value);
 
     if (refusal != GALHOVEIA_DONE)
         say_refusal(what, refusal, value);
@@ -242,12 +246,15 @@ void show_instruction(const struct book *book, unsigned address)
 }
 
 /* An instruction that changes a data, display or scan cell has that cell as its first operand, or $00F. */
+bool is_through_pointer(const struct book *book, unsigned address)
+{
+    return strncmp(first_operand(book->lines.at[address]), "00F", 3) == 0;
+}
+
 void show_writer(const struct book *book, unsigned address)
 {
-    const char *line = book->lines.at[address];
-
-    printf("%s%s\n", line,
-           strncmp(first_operand(line), "00F", 3) == 0 ? "  ; wherever the pointer $012, $011, $010 stands" : "");
+    printf("%s%s\n", book->lines.at[address],
+           is_through_pointer(book, address) ? "  ; wherever the pointer $012, $011, $010 stands" : "");
 }
 
 void show_head(uint32_t cell, const char *meaning, size_t count)
@@ -287,16 +294,29 @@ bool show_level_writers(const struct book *book)
     return true;
 }
 
-void show_book(const char *path, const struct book *book)
+bool is_nop(const struct book *book, unsigned address)
 {
-    unsigned unlisted = 0, blank = 0;
+    return two(book->program.at + 2 * address) == NOP_WORD;
+}
+
+struct counted_words count_words(const struct book *book)
+{
+    struct counted_words counted = {0, 0};
 
     for (unsigned address = 0; address < GALHOVEIA_WORDS; address++) {
-        unlisted += is_data(book->lines.at[address]);
-        blank += two(book->program.at + 2 * address) == NOP_WORD;
+        counted.unlisted += is_data(book->lines.at[address]);
+        counted.blank += is_nop(book, address);
     }
+    return counted;
+}
+
+void show_book(const char *path, const struct book *book)
+{
+    const struct counted_words counted = count_words(book);
+
     printf("%s is a good book of %zu bytes\n", path, book->file.length);
-    printf("  program: %d words, of these %u NOP and %u that are no instruction\n", GALHOVEIA_WORDS, blank, unlisted);
+    printf("  program: %d words, of these %u NOP and %u that are no instruction\n", GALHOVEIA_WORDS, counted.blank,
+           counted.unlisted);
     printf("  wiring: %zu elements\n", book->wiring.length / GALHOVEIA_ELEMENT_BYTES);
     printf("  level: high digit in $%03X, low digit in $%03X, ground code %u\n", level_cell(book, HIGH),
            level_cell(book, LOW), book->level.at[4]);

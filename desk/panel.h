@@ -33,6 +33,9 @@ struct book {
 bool read_book(const char *path, struct book *book);
 bool make_fresh(struct state *state, uint32_t options, const char *what);
 
+/* A fresh machine. Answers 0 or the refusal, which is not said. */
+uint32_t ask_fresh(struct state *state, uint32_t options, uint64_t *value);
+
 /* Puts three bodies together into a book and says so. Answers whether the library did it; a refusal is said. */
 bool write_book(const char *path, struct bytes program, struct bytes wiring, struct bytes level, bool force);
 
@@ -88,6 +91,9 @@ bool show_level(FILE *to, const struct book *book, const struct state *state, co
 bool show_writers(const struct book *book, uint32_t cell, const char *meaning);
 bool show_level_writers(const struct book *book);
 
+/* Whether the instruction at an address in a list of writers reaches the cell through $00F. */
+bool is_through_pointer(const struct book *book, unsigned address);
+
 /* The rest of a line: the listing's line of an address. Of one in a list of writers it is also said whether it names
    $00F, so that the pointer tells which cell it changes. */
 void show_instruction(const struct book *book, unsigned address);
@@ -100,6 +106,14 @@ void show_list(const struct book *book, const struct writers *writers);
 
 /* What the chip does in a state: running, asleep in HALT, asleep in STOP. */
 const char *mode_words(const struct state *state);
+
+/* How many words of the program are NOP, and how many are no instruction. */
+struct counted_words {
+    unsigned blank, unlisted;
+};
+
+struct counted_words count_words(const struct book *book);
+bool is_nop(const struct book *book, unsigned address);
 
 void show_book(const char *path, const struct book *book);
 void show_processor(const struct state *state); /* PC, AC, CY and mode, as a part of a line */

@@ -71,6 +71,14 @@ uint32_t do_run(struct run *run, uint32_t stop, uint64_t *value)
     return refusal;
 }
 
+void go_on(struct run *run)
+{
+    run->start = run->end;
+    run->events.at += run->done;
+    run->events.length -= (size_t)run->done;
+    run->done = 0;
+}
+
 uint32_t step_once(const struct book *book, struct state *state, uint8_t event, uint64_t *value)
 {
     return galhoveia_step(book->program.at, book->program.length, state->memory, sizeof state->memory, state->record,

@@ -20,6 +20,9 @@ uint32_t do_run(struct run *run, uint32_t stop, uint64_t *value);
    counts. */
 uint32_t run_events(struct run *run, uint32_t stop);
 
+/* Makes of a run that has stopped at an address the run of the events that are left, from where it ended. */
+void go_on(struct run *run);
+
 /* Says why a run stopped, as the rest of a line, and what the registers then are. */
 void show_stop(uint32_t reason, uint32_t stop, const struct state *state);
 
