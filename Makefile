@@ -92,6 +92,11 @@ desk: build/plain/desk
 
 demo: build/plain/desk
 	build/plain/desk demo examples
+	@echo
+	@echo "6. All of it on one page, for the inspector: open it in a browser, or print it"
+	@echo
+	build/plain/desk report $(BOOK) --script examples/dispatcher.script --stop 010 --digits 2 \
+	    --out build/dispatcher.html --force
 
 RECORDED = debug examples/dispatcher.book --script examples/dispatcher.script --digits 2 --echo
 
@@ -102,7 +107,7 @@ recording: build/plain/desk
 
 build/plain/objects/%.o: %.c $(HEADERS)
 	@mkdir -p $(dir $@)
-	$(LINKED_CC) -std=c11 $(CFLAGS) -c -o $@ $<
+	$(LINKED_CC) -std=c11 $(CFLAGS) $(DEFINES) -c -o $@ $<
 
 build/plain/objects/%.o: %.cpp $(HEADERS)
 	@mkdir -p $(dir $@)
@@ -110,15 +115,26 @@ build/plain/objects/%.o: %.cpp $(HEADERS)
 
 build/native/objects/%.o: %.c $(HEADERS)
 	@mkdir -p $(dir $@)
-	$(CC) -std=c11 $(CFLAGS) -c -o $@ $<
+	$(CC) -std=c11 $(CFLAGS) $(DEFINES) -c -o $@ $<
 
 build/sanitized/objects/%.o: %.c $(HEADERS)
 	@mkdir -p $(dir $@)
-	$(CC) -std=c11 $(CFLAGS) $(SANITIZE) -c -o $@ $<
+	$(CC) -std=c11 $(CFLAGS) $(SANITIZE) $(DEFINES) -c -o $@ $<
 
 build/bench/objects/%.o: %.c $(HEADERS)
 	@mkdir -p $(dir $@)
 	$(CC) -std=c11 -O3 $(STRICT) $(DEFINES) -c -o $@ $<
+
+# The commit that the desk is made of goes into one object of each kind, which is made anew only where it changes.
+MADE = $(foreach kind,plain native sanitized,build/$(kind)/objects/desk/made.o)
+
+build/commit: asked
+	@mkdir -p $(dir $@)
+	@desk/commit.sh >$@.new
+	@if cmp -s $@.new $@; then rm $@.new; else mv $@.new $@; fi
+
+$(MADE): DEFINES = -DCOMMIT='"$(shell cat build/commit)"'
+$(MADE): build/commit
 
 build/bench/objects/bench/sides.o: DEFINES = $(if $(BEFORE),-DBENCH_BEFORE)
 build/bench/objects/bench/sides.o: asked

@@ -8,6 +8,7 @@
 #include "explain.h"
 #include "manual.h"
 #include "patch.h"
+#include "report.h"
 #include "texts.h"
 #include "trace.h"
 #include "two.h"
@@ -376,6 +377,19 @@ static const struct command commands[] = {
      "cell that has other writers than before, with - in front of those that are gone and + in front of new ones.\n"
      "Writers through $00F are writers of every cell: where these are others, they are shown once for all cells, and the\n"
      "cell that the old or the new word names is shown besides.\n", NULL, work_patch},
+    {"report", "report BOOK [--script FILE [--stop HEX] [--raw-script] [--state FILE | --options N]] --out FILE.html\n"
+               "                   [--force] [--digits N] [--columns N] [--title TEXT]",
+     "writes a page on a book, and on a script's run over it, for the inspector",
+     "The page is one file of HTML that fetches nothing and prints on A4. It tells what is in the book; of a script how its\n"
+     "run ended, and the panel as a picture and its level at the start, at each cycle that left PC at HEX and at the end,\n"
+     "with the level that the old emulator made of the same digits, taken as decimal; who can write the level cells, and\n"
+     "in the run who did; every refusal; what is proved and where; the cross-reference; the listing; the commit that the\n"
+     "desk is made of, and the command line. The chip is fresh, or as in the state FILE; digits and columns are those of\n"
+     "desk picture. Equal stops one after the other are told once, and a page has 40 panels and 200 changes at most; how\n"
+     "many more there were is told. The same files give the same page, byte for byte.\n"
+     "Where something was refused, of the run, a picture or a level, the page is written all the same and tells of it, and\n"
+     "the status is 1. It is not written where the book itself is refused, nor after a fault.\n",
+     run_texts, work_report},
     {"listing", "listing BOOK [--out FILE [--force]]", "writes a book's program as text",
      "The listing goes to standard output, or into FILE. desk program reads it back; desk patch replaces one word.\n",
      listing_texts, work_listing},
@@ -399,8 +413,8 @@ static const char closing[] =
     "No file is written over unless --force is given.\n"
     "Exit status: 0 done; 1 refused by the library, which is said with its number and value; 2 wrong use,\n"
     "or a file that cannot be read, is in the way, or is not what it should be; 3 a fault of the library,\n"
-    "which a watched run, a run that is heard, a trace, the demo, a patch and whatever takes a listing's lines\n"
-    "or a cross-reference look for.\n";
+    "which a watched run, a run that is heard, a trace, the demo, a report, a patch and whatever takes a\n"
+    "listing's lines or a cross-reference look for.\n";
 
 static void print_overview(FILE *to)
 {
