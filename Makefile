@@ -65,6 +65,7 @@ DESK = $(wildcard desk/*.c)
 COMPARE = $(wildcard tests/compare*.c) tests/support.c tests/lending.c tests/counting.c tests/machines.c tests/forms.c
 TEXT = tests/text.c desk/assembler.c desk/attempt.c desk/files.c desk/listing.c desk/mnemonics.c desk/progress.c \
     desk/refusal.c desk/texts.c
+PAGE = $(wildcard tests/page*.c) desk/attempt.c desk/files.c desk/progress.c desk/refusal.c desk/texts.c
 BENCH = $(wildcard bench/*.c) desk/attempt.c desk/files.c desk/progress.c desk/refusal.c desk/texts.c
 STACK = $(patsubst %.c,build/native/objects/%.o,tests/stack.c tests/counting.c tests/machines.c)
 FUZZ = $(wildcard tests/fuzz*.c) tests/counting.c $(filter-out desk/main.c,$(DESK))
@@ -188,6 +189,9 @@ build/native/trials: $(patsubst %.c,build/native/objects/%.o,$(TRIALS) $(SECOND)
 	$(CC) -o $@ $^
 
 build/native/followed: $(patsubst %.c,build/native/objects/%.o,$(FOLLOWED) $(SECOND))
+	$(CC) -o $@ $^
+
+build/native/page-checker: $(patsubst %.c,build/native/objects/%.o,$(PAGE) $(SECOND))
 	$(CC) -o $@ $^
 
 build/native/forgetful: $(patsubst %.c,build/native/objects/%.o,$(DESK) tests/forgetful.c tests/standin.c $(SECOND))

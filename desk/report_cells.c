@@ -99,8 +99,8 @@ static void put_change_table(struct report *report, uint64_t changes)
         put_change(report, &report->changes[at]);
     put(page, "</tbody>\n</table>\n</div>\n");
     if (changes > report->changes_kept)
-        put_form(page, "<p class=\"left-out\">Not shown: %llu more change%s. A page has the first %d; the table above this "
-                       "section counts them all.</p>\n", (unsigned long long)(changes - report->changes_kept),
+        put_form(page, "<p class=\"left-out\">Not shown: %llu more change%s. A page has the first %d; the tables of the "
+                       "section before count them all.</p>\n", (unsigned long long)(changes - report->changes_kept),
                  plural(changes - report->changes_kept), CHANGES_MOST);
 }
 
