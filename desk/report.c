@@ -50,7 +50,7 @@ static void put_title(struct report *report)
 {
     const char *slash = strrchr(report->book_path, '/');
 
-    if (report->title != NULL) {
+    if (report->title != NULL && report->title[0] != '\0') {
         put_text(&report->page, report->title);
         return;
     }

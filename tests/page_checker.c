@@ -1,6 +1,6 @@
 /* Judges a page that desk report has written, with the second emulator and a reading of its own:
      page_checker PAGE BOOK [--script FILE] [--raw-script] [--stop HEX] [--state FILE] [--options N] [--digits N]
-                  [--shown-title TEXT] [--shown-book TEXT] [--shown-script TEXT]
+                  [--columns N] [--shown-title TEXT] [--shown-book TEXT] [--shown-script TEXT]
    The words are those of the report; what the page must show of names that it cannot show as they are is told by the last
    three. Each thing that is wrong has a line, and the last line tells how many checks passed and failed.
      page_checker --command PAGE
@@ -134,6 +134,8 @@ static void take_words(struct asked *asked, int words, char **word)
             asked->options = (uint32_t)strtoul(value, NULL, 10);
         else if (strcmp(word[at - 1], "--digits") == 0)
             asked->digits = (unsigned)strtoul(value, NULL, 10);
+        else if (strcmp(word[at - 1], "--columns") == 0)
+            asked->columns = (unsigned)strtoul(value, NULL, 10);
         else if (strcmp(word[at - 1], "--shown-title") == 0)
             asked->shown_title = value;
         else if (strcmp(word[at - 1], "--shown-book") == 0)
@@ -159,7 +161,7 @@ static int tell_command(const char *path)
 
 int main(int argc, char **argv)
 {
-    static struct asked asked = {.stop = SECOND_WORDS};
+    static struct asked asked = {.stop = SECOND_WORDS, .columns = 16};
     static struct expected expected;
     struct node *root;
 

@@ -6,7 +6,7 @@
 #include <stdlib.h>
 #include <string.h>
 
-enum { SEGMENTS = 7, DIGIT_WIDE = 60, DIGIT_HIGH = 104 };
+enum { SEGMENTS = 7, DIGIT_WIDE = 60, DIGIT_HIGH = 104, DIGITS_IN_ROW = 8 };
 
 static const char *ending(uint64_t count)
 {
@@ -47,6 +47,24 @@ static void check_lamp(struct node *element, unsigned number, bool lit)
     check_text(find(element->parent, "text", NULL), "a lamp's number", "%u", number);
 }
 
+/* A digit or lamp stands right of the one before it, or begins a row below. */
+static void check_place(struct node *element, const struct asked *asked, unsigned number)
+{
+    static int last_x, last_y;
+    const unsigned lamps_from = SEGMENTS * asked->digits;
+    const char *transform = value_of(element->parent, "transform");
+    const unsigned in_row = number < lamps_from ? number / SEGMENTS % DIGITS_IN_ROW : (number - lamps_from) % asked->columns;
+    int x = 0, y = 0;
+
+    if (number < lamps_from && number % SEGMENTS > 0)
+        return;
+    check(transform != NULL && sscanf(transform, "translate(%d %d)", &x, &y) == 2, "element %u has no place", number);
+    if (number > 0)
+        check(in_row > 0 ? y == last_y && x > last_x : y > last_y, "element %u is not in its place", number);
+    last_x = x;
+    last_y = y;
+}
+
 static void check_element(struct node *element, const struct asked *asked, const struct stand *stand, unsigned number)
 {
     const uint8_t *wired = asked->book + asked->wiring + 3 * number;
@@ -63,6 +81,7 @@ static void check_element(struct node *element, const struct asked *asked, const
     check(bit != NULL && strtoul(bit, NULL, 10) == wired[2], "element %u is wired to another bit", number);
     check_text(find(element, "title", NULL), "an element's title", "element %u, cell $%03X bit %u: %s", number,
                wired[0] * 256u + wired[1], wired[2], lit ? "lit" : "dark");
+    check_place(element, asked, number);
     if (number < SEGMENTS * asked->digits)
         check_segment(element, number);
     else
