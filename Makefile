@@ -1,5 +1,5 @@
 # The C side: the desk command, its example, the comparison with the second emulator, and the measurements.
-#   make demo            builds what is missing and runs the main job on the example book
+#   make demo            builds what is missing, runs the main job on the example book, and writes its report
 #   make test            all tests of the C side; the last line tells how many passed and failed
 #   make test-sanitized  the same with the address and undefined-behaviour sanitizers, with fewer events
 #   make recording       writes docs/debugger.txt, a recorded session of desk debug over the example
@@ -224,6 +224,9 @@ build/sanitized/compare: $(patsubst %.c,build/sanitized/objects/%.o,$(COMPARE) $
 build/sanitized/text: $(patsubst %.c,build/sanitized/objects/%.o,$(TEXT) second/instruction.c) $(SANITIZED_LIB)
 	$(CC) $(SANITIZE) -o $@ $^
 
+build/sanitized/page-checker: $(patsubst %.c,build/sanitized/objects/%.o,$(PAGE) $(SECOND))
+	$(CC) $(SANITIZE) -o $@ $^
+
 build/sanitized/fuzz: $(FUZZ:%.c=build/sanitized/objects/%.o) $(SANITIZED_LIB)
 	$(CC) $(SANITIZE) -o $@ $^
 
@@ -233,11 +236,13 @@ build/sanitized/fuzz: $(FUZZ:%.c=build/sanitized/objects/%.o) $(SANITIZED_LIB)
 FAULTY_DESKS = build/native/forgetful build/native/deaf build/native/torn build/native/stale build/native/looped
 
 test: build/plain/header build/plain/header-cpp build/plain/desk build/plain/compare build/plain/text \
-    build/native/trials build/native/slow build/native/terminal build/native/followed $(STACK) $(FAULTY_DESKS)
+    build/native/trials build/native/slow build/native/terminal build/native/followed build/native/page-checker \
+    $(STACK) $(FAULTY_DESKS)
 	@tests/all.sh tests/newcomer.sh "tests/header.sh $(CC) $(CXX)" build/plain/header build/plain/header-cpp \
 	    build/plain/text "tests/desk.sh build/plain/desk $(FAULTY_DESKS)" \
 	    "tests/debug.sh build/plain/desk build/native/forgetful" \
-	    "tests/trace.sh build/plain/desk build/native/deaf build/native/followed $(DRAWS)" $(STACK_TEST) \
+	    "tests/trace.sh build/plain/desk build/native/deaf build/native/followed $(DRAWS)" \
+	    "tests/report.sh build/plain/desk build/native/page-checker" $(STACK_TEST) \
 	    "tests/terminal.sh build/plain/desk build/native/slow build/native/terminal" \
 	    "tests/install.sh '$(LINKED_CC)' '$(LINKED_CXX)' '$(LINK_TO)' $(LIB)" \
 	    "build/native/trials build/trials" \
@@ -248,11 +253,12 @@ test: build/plain/header build/plain/header-cpp build/plain/desk build/plain/com
 SANITIZED = ASAN_OPTIONS=detect_leaks=0:exitcode=99 UBSAN_OPTIONS=exitcode=99
 
 test-sanitized: build/sanitized/desk build/sanitized/compare build/sanitized/text build/sanitized/fuzz \
-    build/native/trials build/native/followed $(FAULTY_DESKS)
+    build/sanitized/page-checker build/native/trials build/native/followed $(FAULTY_DESKS)
 	@$(SANITIZED) tests/all.sh build/sanitized/text \
 	    "tests/desk.sh build/sanitized/desk $(FAULTY_DESKS)" \
 	    "tests/debug.sh build/sanitized/desk build/native/forgetful" \
 	    "tests/trace.sh build/sanitized/desk build/native/deaf build/native/followed $(SANITIZED_DRAWS)" \
+	    "tests/report.sh build/sanitized/desk build/sanitized/page-checker" \
 	    "build/sanitized/fuzz examples --inputs $(FUZZ_INPUTS)" \
 	    "build/native/trials build/trials" \
 	    "tests/clean.sh build/sanitized/compare calls --trials build/trials --machines 2 --cell-stride 200 --text-stride 10 --xref-stride 20" \

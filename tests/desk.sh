@@ -15,7 +15,7 @@ ends 0 --help
 says out 'desk writers BOOK CELL'
 quiet
 ends 0 book --help
-for command in demo fresh run run-two level picture writers xref patch listing program 'book check' 'book make'; do
+for command in demo fresh run run-two level picture writers xref patch report listing program 'book check' 'book make'; do
     # shellcheck disable=SC2086
     ends 0 $command --help
     says out "usage: desk $command"
@@ -50,7 +50,7 @@ says err 'no such command: nonsense'
 ends 2 book
 ends 2 book burn
 says err 'no such command: book burn'
-for command in fresh run run-two level picture writers xref patch listing program 'book check' 'book make'; do
+for command in fresh run run-two level picture writers xref patch report listing program 'book check' 'book make'; do
     # shellcheck disable=SC2086
     ends 2 $command
     says err "usage: desk $command"
@@ -404,6 +404,10 @@ says err 'desk: FAULT: event 25 changed cell $021 at $016, which its list of wri
 says err 'report it'
 ends 3 demo "$examples"
 says err 'desk: FAULT: event 25 changed cell $021 at $016, which its list of writers does not have'
+ends 3 report "$book" --script "$script" --out never.html
+says err 'desk: FAULT: event 25 changed cell $021 at $016, which its list of writers does not have'
+says err 'report it'
+absent never.html
 ends 0 run "$book" "$script" --watch 020
 quiet
 desk=$proved
@@ -698,6 +702,10 @@ says err 'report it'
 absent never.wav
 ends 3 demo "$examples"
 says err 'desk: FAULT: sound clock by sound clock the run comes to another end'
+ends 3 report "$book" --script "$script" --out never.html
+says err 'desk: FAULT: single steps and the run come to different states'
+says err 'report it'
+absent never.html
 ends 0 run "$book" silent.script --wav silent.wav --force
 quiet
 desk=$proved
@@ -1477,7 +1485,7 @@ case $(ls -l masked.lst) in -rw-r-----*) ok ;; *) wrong "a listing's mode does n
 proved=$desk
 desk=$torn
 for command in "listing $book" "writers $book --level" "xref $book" "patch $book 027 3C21 never.book" \
-    "book check $book" 'book make never.book stop.asm small.wiring small.level'; do
+    "report $book --out never.html" "book check $book" 'book make never.book stop.asm small.wiring small.level'; do
     # shellcheck disable=SC2086
     ends 3 $command
     says err "desk: FAULT: the library's listing: a line is missing, too short or too long"
@@ -1485,6 +1493,7 @@ for command in "listing $book" "writers $book --level" "xref $book" "patch $book
     unbegun
 done
 absent never.book
+absent never.html
 desk=$proved
 
 echo "desk: a cross-reference"
@@ -1705,7 +1714,7 @@ unbegun
 # Tables that cannot be are found out.
 proved=$desk
 desk=$looped
-for command in "xref $book" "xref $book --all"; do
+for command in "xref $book" "xref $book --all" "report $book --out never.html"; do
     # shellcheck disable=SC2086
     ends 3 $command
     says err "desk: FAULT: the library's cross-reference: the addresses under a cell do not ascend"
@@ -1720,6 +1729,7 @@ for command in "xref $book --cell 304" "patch $book 027 3C21 never.book"; do
     unbegun
 done
 absent never.book
+absent never.html
 ends 0 xref none.book
 quiet
 desk=$proved
