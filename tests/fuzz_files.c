@@ -131,6 +131,7 @@ static const char *const lines_of_books[] = {
     "book check drawn.book", "level drawn.book kept.state", "picture drawn.book kept.state --digits 1",
     "run drawn.book kept.script --show", "writers drawn.book --level", "listing drawn.book --out new.lst",
     "xref drawn.book --cell 020", "run-two drawn.book kept.two", "trace drawn.book kept.script --vcd new.vcd --lines",
+    "report drawn.book --script kept.script --stop 003 --digits 1 --out new.html",
 };
 
 static const char *const lines_of_states[] = {
@@ -139,6 +140,7 @@ static const char *const lines_of_states[] = {
     "run-two kept.book kept.two --state0 drawn.state --state1 kept.state --save1 new.state",
     "run kept.book kept.script --state drawn.state --watch-level",
     "trace kept.book kept.script --state drawn.state --vcd new.vcd",
+    "report kept.book --script kept.script --state drawn.state --out new.html",
 };
 
 static const char *const lines_of_texts[] = {
@@ -148,6 +150,7 @@ static const char *const lines_of_texts[] = {
     "book make new.book kept.asm drawn.wiring kept.level", "book make new.book kept.asm kept.wiring drawn.level",
     "book make new.book drawn.bin kept.wiring kept.level", "program drawn.lst new.bin",
     "trace kept.book drawn.script --from 3 --count 9", "trace kept.book drawn.script --raw-script --count 40",
+    "report kept.book --script drawn.script --raw-script --out new.html",
 };
 
 static const char *const lines_of_words[] = {
@@ -163,15 +166,17 @@ static const char *const lines_of_words[] = {
     "book make copy.book copy.asm copy.wiring copy.level --force", "patch kept.book 001 3C20 new.book",
     "trace kept.book kept.script --from 9 --count 20 --options 5", "trace kept.book kept.script --vcd new.vcd --lines",
     "trace copy.book copy.script --state copy.state --vcd copy.lst --force",
+    "report kept.book --script kept.script --stop 010 --title kept --columns 3 --out new.html",
+    "report copy.book --script copy.script --state copy.state --out copy.html --force",
 };
 
 #define LINE_OF(lines) lines[any(sizeof lines / sizeof lines[0])]
 
 static const char option_words[] =
     "--force --stop --state --save --options --digits --columns --watch --watch-level --wav --rate --raw-script --show "
-    "--raw --level --out --cell --all --from --count --vcd --lines --help -- --state0 --stop1 --save1 kept.book "
-    "kept.state kept.script new.state drawn.book missing 0 1 7 8 16 240 241 4096 $020 020 FFF 1000 FFFFFFFF 100000000 "
-    "-1 x 32768 $ 0x";
+    "--raw --level --out --cell --all --from --count --vcd --lines --script --title --help -- --state0 --stop1 --save1 "
+    "kept.book kept.state kept.script new.state drawn.book missing 0 1 7 8 16 240 241 4096 $020 020 FFF 1000 FFFFFFFF "
+    "100000000 -1 x 32768 $ 0x";
 
 enum { WORDS_MOST = 32, WORD_ROOM = 48 };
 

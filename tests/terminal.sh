@@ -37,6 +37,16 @@ key C-c
 says out ' of 40000000 events looked at, 1 s'
 absent never.state
 no_parts
+# A report tells how far it is from stop to stop, and then with looking at each event.
+at $interrupted 'expect events run from stop to stop, 1 s
+key C-c
+' "$desk" report busy.book --script long.script --stop 000 --out never.html
+says out ' of 40000000 events run from stop to stop, 1 s'
+at $interrupted 'expect events looked at, 1 s
+key C-c
+' "$desk" report busy.book --script long.script --out never.html
+absent never.html
+no_parts
 # A short run tells nothing of it, and takes no line back.
 at 0 '' "$desk" run "$book" "$script"
 says_not out "$(printf '\r%s' "$told")"
