@@ -1,5 +1,5 @@
-/* A page of HTML, put together in memory. It is written so that it is also well-formed XML: what puts markup closes what
-   it opens, and whatever comes from a file or the command line goes through put_text. */
+/* A page of HTML, put together in memory. It is written so that it is also well-formed XML: what puts markup closes
+   what it opens, and whatever comes from a file or the command line goes through put_text. */
 #ifndef DESK_PAGE_H
 #define DESK_PAGE_H
 

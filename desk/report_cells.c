@@ -42,8 +42,9 @@ static void put_digit_writers(struct report *report, enum digit digit)
         put(page, "no instruction can change it</h3>\n");
         return;
     }
-    put_form(page, "%zu instruction%s can change it</h3>\n<div class=\"wide\">\n<table class=\"writers\" id=\"%s\">\n<thead>"
-                   "<tr><th scope=\"col\">Instruction</th><th scope=\"col\">Reaches the cell</th>%s</tr></thead>\n<tbody>\n",
+    put_form(page, "%zu instruction%s can change it</h3>\n<div class=\"wide\">\n<table class=\"writers\" "
+                   "id=\"%s\">\n<thead><tr><th scope=\"col\">Instruction</th><th scope=\"col\">Reaches the "
+                   "cell</th>%s</tr></thead>\n<tbody>\n",
              writers->count, plural(writers->count), digit_ids[digit],
              has_run(report) ? "<th scope=\"col\">Changed it in this run</th>" : "");
     for (size_t at = 0; at < writers->count; at++)
@@ -63,16 +64,17 @@ void put_writers(struct report *report)
 {
     struct page *page = &report->page;
 
-    put(page, "<p>These instructions and no others can leave a level cell with another value. The list is proved exact: an "
-              "address that is not in it cannot have written the digit, and for each that is there is some state of the "
-              "chip in which it does. Each line is that of the <a href=\"#listing\">listing</a>: address, word, mnemonic, "
-              "operands.</p>\n");
+    put(page, "<p>These instructions and no others can leave a level cell with another value. The list is proved "
+              "exact: an address that is not in it cannot have written the digit, and for each that is there is some "
+              "state of the chip in which it does. Each line is that of the <a href=\"#listing\">listing</a>: address, "
+              "word, mnemonic, operands.</p>\n");
     for (enum digit digit = HIGH; digit < DIGITS; digit++)
         put_digit_writers(report, digit);
     if (any_through_pointer(report))
-        put(page, "<p class=\"note\">\u2020 Such an instruction names <code>$00F</code> and writes wherever the pointer "
-                  "<code>$012</code>, <code>$011</code>, <code>$010</code> stands. It stands in the list of every cell, since "
-                  "some state of the chip has the pointer there, whether or not this program ever comes to it.</p>\n");
+        put(page, "<p class=\"note\">\u2020 Such an instruction names <code>$00F</code> and writes wherever the "
+                  "pointer <code>$012</code>, <code>$011</code>, <code>$010</code> stands. It stands in the list of "
+                  "every cell, since some state of the chip has the pointer there, whether or not this program ever "
+                  "comes to it.</p>\n");
 }
 
 /* ---- Who did ---- */
@@ -81,7 +83,8 @@ static void put_change(struct report *report, const struct cell_change *change)
 {
     struct page *page = &report->page;
 
-    put_form(page, "<tr><th scope=\"row\" class=\"number\">%llu</th><td><code>$%03lX</code> %s</td><td>%u \u2192 %u</td><td>",
+    put_form(page, "<tr><th scope=\"row\" class=\"number\">%llu</th><td><code>$%03lX</code> %s</td><td>%u \u2192 "
+                   "%u</td><td>",
              (unsigned long long)change->place, (unsigned long)change->watched->cell,
              change->watched == watched_digit(report, HIGH) ? "high digit" : "low digit", change->before,
              change->after);
@@ -93,14 +96,15 @@ static void put_change_table(struct report *report, uint64_t changes)
 {
     struct page *page = &report->page;
 
-    put(page, "<div class=\"wide\">\n<table class=\"changes\">\n<thead><tr><th scope=\"col\" class=\"number\">Event</th><th scope=\"col\">Cell"
-              "</th><th scope=\"col\">Before \u2192 after</th><th scope=\"col\">By</th></tr></thead>\n<tbody>\n");
+    put(page, "<div class=\"wide\">\n<table class=\"changes\">\n<thead><tr><th scope=\"col\" "
+              "class=\"number\">Event</th><th scope=\"col\">Cell</th><th scope=\"col\">Before \u2192 after</th><th "
+              "scope=\"col\">By</th></tr></thead>\n<tbody>\n");
     for (size_t at = 0; at < report->changes_kept; at++)
         put_change(report, &report->changes[at]);
     put(page, "</tbody>\n</table>\n</div>\n");
     if (changes > report->changes_kept)
-        put_form(page, "<p class=\"left-out\">Not shown: %llu more change%s. A page has the first %d; the tables of the "
-                       "section before count them all.</p>\n", (unsigned long long)(changes - report->changes_kept),
+        put_form(page, "<p class=\"left-out\">Not shown: %llu more change%s. A page has the first %d; the tables of "
+                       "the section before count them all.</p>\n", (unsigned long long)(changes - report->changes_kept),
                  plural(changes - report->changes_kept), CHANGES_MOST);
 }
 
@@ -115,9 +119,9 @@ void put_changes(struct report *report)
     }
     for (enum digit digit = HIGH; digit < DIGITS; digit++)
         changes += watched_digit(report, digit)->changes;
-    put(page, "<p>The run was gone through once more, event by event, and the level cells were looked at after each. Every "
-              "change was made by an instruction of the lists above; any other would have been told as a fault, and this "
-              "page would not have been written.</p>\n");
+    put(page, "<p>The run was gone through once more, event by event, and the level cells were looked at after each. "
+              "Every change was made by an instruction of the lists above; any other would have been told as a fault, "
+              "and this page would not have been written.</p>\n");
     if (changes == 0) {
         put(page, "<p>No change of a level cell: none.</p>\n");
         return;
@@ -172,8 +176,9 @@ static void put_kind(struct report *report, const struct kind *kind)
         cells += own.count > 0;
         shown += own.count > 0 || digit_of(report, cell)[0] != '\0';
     }
-    put_form(page, "<h3>%c%s cells $%03X\u2013$%03X: %u of %u with writers of their own</h3>\n", kind->name[0] - 'a' + 'A',
-             kind->name + 1, kind->first, kind->last, cells, kind->last - kind->first + 1);
+    put_form(page, "<h3>%c%s cells $%03X\u2013$%03X: %u of %u with writers of their own</h3>\n",
+             kind->name[0] - 'a' + 'A', kind->name + 1, kind->first, kind->last, cells,
+             kind->last - kind->first + 1);
     if (shown == 0)
         return;
     put_form(page, "<div class=\"wide\">\n<table class=\"xref\" id=\"xref-%s\">\n<thead><tr><th scope=\"col\">Cell</th>"
@@ -188,8 +193,8 @@ void put_xref(struct report *report)
     struct page *page = &report->page;
     struct writers pointed;
 
-    put(page, "<p>The writers of a cell are its own, which name it, joined with those through <code>$00F</code>, which can "
-              "write every data, display and scan cell and stand here once.</p>\n<p id=\"xref-pointed\">Through "
+    put(page, "<p>The writers of a cell are its own, which name it, joined with those through <code>$00F</code>, which "
+              "can write every data, display and scan cell and stand here once.</p>\n<p id=\"xref-pointed\">Through "
               "<code>$00F</code>: ");
     take_kept(&report->xref, GALHOVEIA_XREF_POINTED, &pointed);
     put_addresses(report, &pointed);

@@ -7,8 +7,8 @@
 
 enum { HALF = 0x800, FOLD_LEAST = 2 };
 
-/* Where a line's word can lead besides the next one, as its operand tells: a jump's is an address, that of a branch or a
-   call lies in the half of the program in which the word stands. Answers false for any other word. */
+/* Where a line's word can lead besides the next one, as its operand tells: a jump's is an address, that of a branch or
+   a call lies in the half of the program in which the word stands. Answers false for any other word. */
 static bool leads_to(const char *line, unsigned address, unsigned *target)
 {
     const char *name = line + LINE_MNEMONIC;
@@ -78,10 +78,10 @@ void put_listing(struct report *report)
     for (unsigned address = 0; address < GALHOVEIA_WORDS; address++)
         if (leads_to(report->book.lines.at[address], address, &target))
             report->linked[target] = true;
-    put(page, "<p>Each line is the address, the word, the data sheet\u2019s mnemonic and its operands, in hex; a word that is "
-              "no instruction has the mark DATA. Lines that can write a digit of the level are marked <span class=\"mark\">"
-              "high</span> or <span class=\"mark\">low</span>. Where NOPs follow each other, one line tells of them.</p>\n"
-              "<ul class=\"listing\">\n");
+    put(page, "<p>Each line is the address, the word, the data sheet\u2019s mnemonic and its operands, in hex; a word "
+              "that is no instruction has the mark DATA. Lines that can write a digit of the level are marked <span "
+              "class=\"mark\">high</span> or <span class=\"mark\">low</span>. Where NOPs follow each other, one line "
+              "tells of them.</p>\n<ul class=\"listing\">\n");
     for (unsigned address = 0; address < GALHOVEIA_WORDS;) {
         unsigned fold = foldable(report, address);
 
@@ -89,8 +89,8 @@ void put_listing(struct report *report)
             put_one(report, address++);
             continue;
         }
-        put_form(page, "<li class=\"fold\" id=\"a%03X\"><code>%03X\u2013%03X: NOP, %u words</code></li>\n", address, address,
-                 address + fold - 1, fold);
+        put_form(page, "<li class=\"fold\" id=\"a%03X\"><code>%03X\u2013%03X: NOP, %u words</code></li>\n", address,
+                 address, address + fold - 1, fold);
         address += fold;
     }
     put(page, "</ul>\n");

@@ -41,8 +41,8 @@ static void put_readings(struct page *page, const struct level *level)
         put(page, "<p class=\"verdict\">Both readings agree: with a high digit of 0 they cannot differ.</p>\n");
         return;
     }
-    put(page, "<p class=\"verdict differs\"><strong>The readings differ.</strong> The decimal one is the wrong stop: work "
-              "at level ");
+    put(page, "<p class=\"verdict differs\"><strong>The readings differ.</strong> The decimal one is the wrong stop: "
+              "work at level ");
     put_signed(page, octal);
     put(page, " would be filed under level ");
     put_signed(page, decimal);
@@ -54,8 +54,8 @@ static void put_level(struct report *report, const struct stand *stand)
     struct page *page = &report->page;
     const struct level *level = &stand->level;
 
-    put_form(page, "<p class=\"digits\">High digit <b>%u</b> in cell $%03X, low digit <b>%u</b> in cell $%03X, ground code "
-                   "<b>%u</b></p>\n", level->digit[HIGH], level_cell(&report->book, HIGH), level->digit[LOW],
+    put_form(page, "<p class=\"digits\">High digit <b>%u</b> in cell $%03X, low digit <b>%u</b> in cell $%03X, ground "
+                   "code <b>%u</b></p>\n", level->digit[HIGH], level_cell(&report->book, HIGH), level->digit[LOW],
              level_cell(&report->book, LOW), level->ground);
     if (stand->level_answer.refusal != GALHOVEIA_DONE) {
         put(page, "<p class=\"level\"><strong>No level</strong></p>\n<p class=\"refused\">The level: ");
@@ -122,8 +122,8 @@ static void put_stand(struct report *report, size_t at)
 static void put_left_out(struct page *page, const struct stops *stops)
 {
     if (stops->left_out > 0)
-        put_form(page, "<p class=\"left-out\" data-left-out=\"%llu\">Not drawn: %llu more stop%s between the one above and "
-                       "the end. A page has %d panels at most.</p>\n", (unsigned long long)stops->left_out,
+        put_form(page, "<p class=\"left-out\" data-left-out=\"%llu\">Not drawn: %llu more stop%s between the one above "
+                       "and the end. A page has %d panels at most.</p>\n", (unsigned long long)stops->left_out,
                  (unsigned long long)stops->left_out, plural(stops->left_out), STANDS_MOST);
 }
 
@@ -161,7 +161,8 @@ static void put_table(struct report *report)
     put(page, "<div class=\"wide\">\n<table class=\"stops\">\n<thead><tr><th scope=\"col\">Where</th>"
               "<th scope=\"col\" class=\"number\">Events done</th><th scope=\"col\" class=\"number\">Times</th>"
               "<th scope=\"col\">Digits</th><th scope=\"col\" class=\"number\">Level</th>"
-              "<th scope=\"col\" class=\"number\">Read as decimal</th><th scope=\"col\">The readings</th></tr></thead>\n<tbody>\n");
+              "<th scope=\"col\" class=\"number\">Read as decimal</th><th scope=\"col\">The "
+              "readings</th></tr></thead>\n<tbody>\n");
     for (size_t at = 0; at < stops->count; at++)
         put_row(report, at);
     put(page, "</tbody>\n</table>\n</div>\n");

@@ -1,17 +1,20 @@
-/* The report's stylesheet: light and dark by what the reader prefers, always light in print. Lit and dark elements differ
-   in fill and edge, whatever the colours. */
+/* The report's stylesheet: light and dark by what the reader prefers, always light in print. Lit and dark elements
+   differ in fill and edge, whatever the colours. */
 #include "report_parts.h"
 
 #include <stddef.h>
 
 const char *const report_style[] = {
-    ":root{color-scheme:light dark;--ink:#1c2126;--soft:#566069;--paper:#fff;--wash:#f3f5f7;--rule:#d5dbe0;--link:#0b57a4;"
-    "--warn:#9a3412;--warn-wash:#fff3e8;--plate:#dfe3e7;--plate-edge:#8b959e;--screw:#b4bcc4;--glass:#e9f0e4;"
-    "--glass-edge:#6c766a;--lit:#10150f;--unlit:#8d9a88;--lamp:#c8660a;--lamp-edge:#5e2f02;--hollow:#77828c}",
-    "@media screen and (prefers-color-scheme:dark){:root{--ink:#e4e8ec;--soft:#a3adb7;--paper:#15181c;--wash:#1e2328;"
-    "--rule:#363d45;--link:#8ec3ff;--warn:#ffb47a;--warn-wash:#33241a;--plate:#2b3137;--plate-edge:#69737d;"
-    "--screw:#454d55;--glass:#0d1210;--glass-edge:#55605a;--lit:#ffb84d;--unlit:#5c665f;--lamp:#ffb84d;--lamp-edge:#ffe0b0;"
-    "--hollow:#8a949e}}",
+    ":root{color-scheme:light dark;"
+    "--ink:#1c2126;--soft:#566069;--paper:#fff;--wash:#f3f5f7;--rule:#d5dbe0;--link:#0b57a4;"
+    "--warn:#9a3412;--warn-wash:#fff3e8;"
+    "--plate:#dfe3e7;--plate-edge:#8b959e;--screw:#b4bcc4;--glass:#e9f0e4;--glass-edge:#6c766a;"
+    "--lit:#10150f;--unlit:#8d9a88;--lamp:#c8660a;--lamp-edge:#5e2f02;--hollow:#77828c}",
+    "@media screen and (prefers-color-scheme:dark){:root{"
+    "--ink:#e4e8ec;--soft:#a3adb7;--paper:#15181c;--wash:#1e2328;--rule:#363d45;--link:#8ec3ff;"
+    "--warn:#ffb47a;--warn-wash:#33241a;"
+    "--plate:#2b3137;--plate-edge:#69737d;--screw:#454d55;--glass:#0d1210;--glass-edge:#55605a;"
+    "--lit:#ffb84d;--unlit:#5c665f;--lamp:#ffb84d;--lamp-edge:#ffe0b0;--hollow:#8a949e}}",
     "*{box-sizing:border-box}",
     "body{margin:0 auto;padding:2rem 1.5rem 4rem;max-width:62rem;background:var(--paper);color:var(--ink);"
     "font:16px/1.55 system-ui,-apple-system,\"Segoe UI\",\"Liberation Sans\",Arial,sans-serif}",
@@ -22,9 +25,10 @@ const char *const report_style[] = {
     "p,ul,dl{margin:.6rem 0}",
     "small,.house,.note,.more,.left-out{color:var(--soft);font-size:.875rem}",
     "a{color:var(--link)}",
-    "code,pre,.line{font-family:ui-monospace,\"DejaVu Sans Mono\",\"Liberation Mono\",Menlo,Consolas,monospace;font-size:.9em;"
-    "overflow-wrap:anywhere}",
-    "pre{padding:.8rem 1rem;background:var(--wash);border:1px solid var(--rule);border-radius:6px;white-space:pre-wrap}",
+    "code,pre,.line{font-family:ui-monospace,\"DejaVu Sans Mono\",\"Liberation Mono\",Menlo,Consolas,monospace;"
+    "font-size:.9em;overflow-wrap:anywhere}",
+    "pre{padding:.8rem 1rem;background:var(--wash);border:1px solid var(--rule);border-radius:6px;"
+    "white-space:pre-wrap}",
     "pre span{display:inline-block}",
     ".house{margin:0;letter-spacing:.06em;text-transform:uppercase;font-size:.75rem}",
     ".glance{display:flex;flex-wrap:wrap;gap:1px;background:var(--rule);border:1px solid var(--rule);border-radius:8px;"
@@ -79,11 +83,11 @@ const char *const report_style[] = {
     "font:8pt sans-serif}}",
     "@media print{html{font-size:12.5px}body{max-width:none;padding:0;font-size:1rem}nav{display:none}"
     "a{color:inherit;text-decoration:underline}h2{margin-top:1.8rem}h2,h3,thead{break-after:avoid}"
-    ".stand,tr,li,pre,.glance,.note{break-inside:avoid}.wide{overflow:visible}thead{display:table-header-group}"
-    ".beside{flex-wrap:nowrap}.panel{flex:0 1 33%}.words{flex:1 1 60%}.listing{columns:3;font-size:.78rem}"
-    ".proved td:nth-child(n+2) code{font-size:.74rem}"
-    "#xref,#listing{break-before:page}"
-    ":root{--plate:#fff;--plate-edge:#555;--screw:#fff;--glass:#fff;--glass-edge:#333;--lit:#000;--unlit:#777;--lamp:#000;"
-    "--lamp-edge:#000;--hollow:#555;--wash:#fff;--warn-wash:#fff;--link:#000}}",
+    ".stand,svg,tr,li,pre,.glance,.note{break-inside:avoid}svg{max-height:190mm}.wide{overflow:visible}"
+    "thead{display:table-header-group}.listing{columns:3;font-size:.78rem}"
+    ".proved td:nth-child(n+2) code{font-size:.74rem}#xref,#listing{break-before:page}"
+    ":root{color-scheme:light;--wash:#fff;--warn-wash:#fff;--link:#000;"
+    "--plate:#fff;--plate-edge:#555;--screw:#fff;--glass:#fff;--glass-edge:#333;"
+    "--lit:#000;--unlit:#777;--lamp:#000;--lamp-edge:#000;--hollow:#555}}",
     NULL,
 };

@@ -95,8 +95,8 @@ static void draw_plate(struct page *page, const struct layout *layout)
 {
     const size_t right = layout->width - SCREW_AT, low = layout->height - SCREW_AT;
 
-    put_form(page, "<rect class=\"plate\" x=\"1\" y=\"1\" width=\"%zu\" height=\"%zu\" rx=\"12\"/>\n", layout->width - 2,
-             layout->height - 2);
+    put_form(page, "<rect class=\"plate\" x=\"1\" y=\"1\" width=\"%zu\" height=\"%zu\" rx=\"12\"/>\n",
+             layout->width - 2, layout->height - 2);
     draw_screw(page, SCREW_AT, SCREW_AT);
     draw_screw(page, right, SCREW_AT);
     draw_screw(page, SCREW_AT, low);
@@ -117,7 +117,7 @@ static void draw_digits(struct page *page, const struct book *book, const struct
         put_form(page, "<g transform=\"translate(%zu %zu) translate(5 0) skewX(-5)\">\n", x, y);
         for (size_t segment = 0; segment < SEGMENTS; segment++)
             draw_segment(page, book, picture, SEGMENTS * digit + segment);
-        put_form(page, "</g>\n<text class=\"on-glass\" x=\"%zu\" y=\"%zu\">%zu\u2013%zu</text>\n", x + DIGIT_WIDTH / 2,
+        put_form(page, "</g>\n<text x=\"%zu\" y=\"%zu\">%zu\u2013%zu</text>\n", x + DIGIT_WIDTH / 2,
                  y + DIGIT_HEIGHT + 18, SEGMENTS * digit, SEGMENTS * digit + SEGMENTS - 1);
     }
 }

@@ -9,11 +9,11 @@
 struct asked {
     const uint8_t *book, *script;
     size_t book_len, script_len;
-    uint64_t program, program_len, wiring, wiring_len, level, level_len; /* where the book has its bodies, and their length */
+    uint64_t program, program_len, wiring, wiring_len, level, level_len; /* where the book has its bodies, how long */
     bool has_script, has_state;
     uint32_t stop, options;
     unsigned digits, columns;
-    uint8_t memory[SECOND_CELLS], record[SECOND_RECORD_BYTES]; /* the state that the run begins with, where one is given */
+    uint8_t memory[SECOND_CELLS], record[SECOND_RECORD_BYTES]; /* where the run begins, if a state is given */
     const char *shown_title, *shown_book, *shown_script;
 };
 
@@ -76,12 +76,14 @@ void expect(struct expected *expected, const struct asked *asked);
 void check(bool holds, const char *format, ...) __attribute__((format(printf, 2, 3)));
 
 /* The text of an element, which must be there and be this. */
-void check_text(const struct node *node, const char *what, const char *format, ...) __attribute__((format(printf, 3, 4)));
+void check_text(const struct node *node, const char *what, const char *format, ...)
+    __attribute__((format(printf, 3, 4)));
 
-void check_rules(struct node *root);                                                                        /* page_rules.c */
-void check_stands(struct node *root, const struct asked *asked, const struct expected *expected);       /* page_stands.c */
-void check_program(struct node *root, const struct asked *asked, const struct expected *expected);    /* page_program.c */
-void check_words(struct node *root, const struct asked *asked, const struct expected *expected);       /* page_words.c */
+/* page_rules.c, page_words.c, page_stands.c, page_program.c */
+void check_rules(struct node *root);
+void check_words(struct node *root, const struct asked *asked, const struct expected *expected);
+void check_stands(struct node *root, const struct asked *asked, const struct expected *expected);
+void check_program(struct node *root, const struct asked *asked, const struct expected *expected);
 
 /* A level as the page shows it: with a minus sign of its own. */
 const char *shown_level(long level);

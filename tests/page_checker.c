@@ -1,8 +1,8 @@
 /* Judges a page that desk report has written, with the second emulator and a reading of its own:
      page_checker PAGE BOOK [--script FILE] [--raw-script] [--stop HEX] [--state FILE] [--options N] [--digits N]
                   [--columns N] [--shown-title TEXT] [--shown-book TEXT] [--shown-script TEXT]
-   The words are those of the report; what the page must show of names that it cannot show as they are is told by the last
-   three. Each thing that is wrong has a line, and the last line tells how many checks passed and failed.
+   The words are those of the report; what the page must show of names that it cannot show as they are is told by the
+   last three. Each thing that is wrong has a line, and the last line tells how many checks passed and failed.
      page_checker --command PAGE
    tells the command line that the page says it was made by. */
 #include "page_check.h"

@@ -5,8 +5,8 @@
 
 enum { LEVEL_GROUND = 4 };
 
-static const char *const fresh_name = "A fresh machine", *const run_name = "The run", *const picture_name = "the picture",
-                         *const level_name = "the level";
+static const char fresh_name[] = "A fresh machine", run_name[] = "The run", picture_name[] = "The picture",
+                  level_name[] = "The level";
 
 struct machine {
     uint8_t memory[SECOND_CELLS], record[SECOND_RECORD_BYTES];
@@ -50,14 +50,18 @@ static void expect_writers(struct expected *expected)
 
 /* ---- Refusals ---- */
 
+static bool is_same(struct told one, struct told other)
+{
+    return one.number == other.number && one.value == other.value;
+}
+
 static void refuse(struct expected *expected, const char *what, struct told told, uint64_t events, bool often)
 {
     struct refused *refused = expected->refused;
 
     if (told.number == 0)
         return;
-    while (refused < expected->refused + expected->refusals
-           && !(refused->what == what && refused->told.number == told.number && refused->told.value == told.value))
+    while (refused < expected->refused + expected->refusals && !(refused->what == what && is_same(refused->told, told)))
         refused++;
     if (refused == expected->refused + expected->refusals) {
         *refused = (struct refused){what, told, events, 0};
@@ -85,8 +89,7 @@ static struct stand look(const struct asked *asked, const struct machine *machin
 
 static bool is_alike(const struct stand *one, const struct stand *other)
 {
-    return one->picture_told.number == other->picture_told.number && one->picture_told.value == other->picture_told.value
-           && one->level_told.number == other->level_told.number && one->level_told.value == other->level_told.value
+    return is_same(one->picture_told, other->picture_told) && is_same(one->level_told, other->level_told)
            && memcmp(one->picture, other->picture, sizeof one->picture) == 0
            && memcmp(one->digit, other->digit, sizeof one->digit) == 0;
 }

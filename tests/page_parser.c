@@ -32,8 +32,8 @@ static _Noreturn void refuse(struct parser *parser, const char *why)
 
 /* ---- Characters ---- */
 
-/* The bytes of one character that a page may hold: UTF-8 in its shortest form, no controls but the line feed, and nothing
-   that a reader would not see or that turns the direction of what follows. */
+/* The bytes of one character that a page may hold: UTF-8 in its shortest form, no controls but the line feed, and
+   nothing that a reader would not see or that turns the direction of what follows. */
 static size_t character_at(struct parser *parser)
 {
     const uint8_t *byte = (const uint8_t *)parser->at;

@@ -65,8 +65,8 @@ static unsigned check_fold(struct node *item, const struct expected *expected, u
 {
     unsigned first = 0, last = 0, words = 0;
 
-    check(sscanf(text_of(item), "%X\u2013%X: NOP, %u words", &first, &last, &words) == 3 && first == address && last >= first
-              && last < SECOND_WORDS && words == last - first + 1, "%03X: %s", address, text_of(item));
+    check(sscanf(text_of(item), "%X\u2013%X: NOP, %u words", &first, &last, &words) == 3 && first == address
+              && last >= first && last < SECOND_WORDS && words == last - first + 1, "%03X: %s", address, text_of(item));
     for (unsigned at = address; at <= last && at < SECOND_WORDS; at++)
         check(word_at(expected, at) == NOP_WORD, "%03X is no NOP, but is told as one", at);
     return last + 1 > address ? last + 1 : address + 1;
@@ -79,8 +79,8 @@ static void check_listing(struct node *root, const struct expected *expected)
     char id[16];
 
     check(list != NULL, "no listing");
-    for (struct node *item = list != NULL ? list->first : NULL; item != NULL && address < SECOND_WORDS; item = item->next) {
-        if (item->name == NULL)
+    for (struct node *item = list != NULL ? list->first : NULL; item != NULL; item = item->next) {
+        if (item->name == NULL || address >= SECOND_WORDS)
             continue;
         snprintf(id, sizeof id, "a%03X", address);
         check(is_element(item, "li") && value_of(item, "id") != NULL && strcmp(value_of(item, "id"), id) == 0,
@@ -124,7 +124,8 @@ static void check_writer(struct node *row, const struct expected *expected, int 
 static void check_writers(struct node *root, const struct expected *expected, int digit)
 {
     struct node *table = with_id(root, digit == 0 ? "writers-high" : "writers-low");
-    struct node *body = table != NULL ? find(table, "tbody", NULL) : NULL, *row = body != NULL ? find(body, "tr", NULL) : NULL;
+    struct node *body = table != NULL ? find(table, "tbody", NULL) : NULL;
+    struct node *row = body != NULL ? find(body, "tr", NULL) : NULL;
     struct node *section = with_id(root, "writers"), *heading = section != NULL ? find(section, "h3", NULL) : NULL;
     unsigned count = 0;
     char said[64];
@@ -156,7 +157,8 @@ static void check_change(struct node *row, const struct expected *expected, cons
     struct node *values = cell != NULL ? find_next(row, cell, "td", NULL) : NULL;
 
     check_text(event, "a change's event", "%" PRIu64, change->event);
-    check_text(cell, "a change's cell", "$%03X %s digit", expected->cell[change->digit], change->digit == 0 ? "high" : "low");
+    check_text(cell, "a change's cell", "$%03X %s digit", expected->cell[change->digit],
+               change->digit == 0 ? "high" : "low");
     check_text(values, "a change", "%u \u2192 %u", change->before, change->after);
     check_link(find(row, "a", NULL), "who made a change", change->address, expected->line[change->address]);
 }
@@ -164,7 +166,8 @@ static void check_change(struct node *row, const struct expected *expected, cons
 static void check_changes(struct node *root, const struct expected *expected)
 {
     struct node *section = with_id(root, "changes"), *table = find(root, "table", "changes");
-    struct node *body = table != NULL ? find(table, "tbody", NULL) : NULL, *row = body != NULL ? find(body, "tr", NULL) : NULL;
+    struct node *body = table != NULL ? find(table, "tbody", NULL) : NULL;
+    struct node *row = body != NULL ? find(body, "tr", NULL) : NULL;
     struct node *left_out = section != NULL ? find(section, "p", "left-out") : NULL;
 
     for (size_t at = 0; at < expected->changes; at++) {
@@ -176,8 +179,8 @@ static void check_changes(struct node *root, const struct expected *expected)
     }
     check(row == NULL, "more changes than there were");
     if (expected->all_changes > expected->changes)
-        check_text(left_out, "changes that are not shown", "Not shown: %" PRIu64 " more change%s. A page has the first %d; the "
-                   "tables of the section before count them all.", expected->all_changes - expected->changes,
+        check_text(left_out, "changes that are not shown", "Not shown: %" PRIu64 " more change%s. A page has the first "
+                   "%d; the tables of the section before count them all.", expected->all_changes - expected->changes,
                    expected->all_changes - expected->changes == 1 ? "" : "s", CHANGES_MOST);
     else
         check(left_out == NULL, "changes are said to be left out");
@@ -200,7 +203,8 @@ static void check_kept(struct node *element, const struct expected *expected, un
 }
 
 /* Every cell that has writers of its own has its row, the level's digits always. */
-static void check_kind(struct node *root, const struct expected *expected, const char *id, unsigned first, unsigned last)
+static void check_kind(struct node *root, const struct expected *expected, const char *id, unsigned first,
+                       unsigned last)
 {
     struct node *table = with_id(root, id), *body = table != NULL ? find(table, "tbody", NULL) : NULL;
     struct node *row = body != NULL ? find(body, "tr", NULL) : NULL;

@@ -1,5 +1,5 @@
-/* Rules of any report's page: what it links to is there, it fetches nothing, a browser nests it as it is written, and it can
-   be read aloud. */
+/* Rules of any report's page: what it links to is there, it fetches nothing, a browser nests it as it is written, and
+   it can be read aloud. */
 #include "page_check.h"
 
 #include <stdlib.h>
@@ -7,9 +7,9 @@
 
 /* Every element that a page has. None fetches anything by itself. */
 static const char *const allowed[] = {
-    "html", "head", "meta", "title", "style", "body", "header", "nav", "main", "section", "div", "h1", "h2", "h3", "p", "dl",
-    "dt", "dd", "ol", "ul", "li", "table", "thead", "tbody", "tr", "th", "td", "a", "b", "strong", "small", "code", "pre",
-    "span", "wbr", "svg", "g", "desc", "rect", "circle", "path", "polygon", "text"};
+    "html", "head", "meta", "title", "style", "body", "header", "nav", "main", "section", "div", "h1", "h2", "h3", "p",
+    "dl", "dt", "dd", "ol", "ul", "li", "table", "thead", "tbody", "tr", "th", "td", "a", "b", "strong", "small",
+    "code", "pre", "span", "wbr", "svg", "g", "desc", "rect", "circle", "path", "polygon", "text"};
 
 static bool is_among(const char *name, const char *const *names, size_t count)
 {
@@ -44,9 +44,10 @@ static void check_attribute(struct node *root, const struct node *node, const st
 {
     static const char *const spaces[] = {"http://www.w3.org/1999/xhtml", "http://www.w3.org/2000/svg"};
     static const char *const names[] = {
-        "lang", "charset", "name", "content", "id", "class", "href", "scope", "colspan", "role", "d", "x", "y", "r", "rx",
-        "width", "height", "viewBox", "transform", "points", "aria-label", "aria-labelledby", "data-place", "data-events",
-        "data-more", "data-element", "data-lit", "data-cell", "data-bit", "data-left-out", "data-refusal", "data-value"};
+        "lang", "charset", "name", "content", "id", "class", "href", "scope", "colspan", "role", "d", "x", "y", "r",
+        "rx", "width", "height", "viewBox", "transform", "points", "aria-label", "aria-labelledby", "data-place",
+        "data-events", "data-more", "data-element", "data-lit", "data-cell", "data-bit", "data-left-out",
+        "data-refusal", "data-value"};
 
     if (strcmp(attribute->name, "xmlns") == 0) {
         check(strcmp(attribute->value, spaces[is_element(node, "svg")]) == 0, "another name space");
@@ -90,12 +91,14 @@ static void check_picture(struct node *svg)
     const char *role = value_of(svg, "role"), *labelled = value_of(svg, "aria-labelledby");
     char wanted[128] = "";
 
-    check(role != NULL && strcmp(role, "img") == 0, "a picture without its role");
-    check(title != NULL && title->parent == svg && desc != NULL && desc->parent == svg, "a picture without title and desc");
-    if (title == NULL || desc == NULL || value_of(title, "id") == NULL || value_of(desc, "id") == NULL || labelled == NULL) {
-        check(false, "a picture's label names no parts of it");
+    check(role != NULL && strcmp(role, "img") == 0 && labelled != NULL, "a picture without its role and label");
+    check(title != NULL && title->parent == svg && desc != NULL && desc->parent == svg,
+          "a picture without title and desc");
+    if (title == NULL || desc == NULL || labelled == NULL)
         return;
-    }
+    check(value_of(title, "id") != NULL && value_of(desc, "id") != NULL, "a picture's title or desc has no id");
+    if (value_of(title, "id") == NULL || value_of(desc, "id") == NULL)
+        return;
     strncat(wanted, value_of(title, "id"), 50);
     strcat(wanted, " ");
     strncat(wanted, value_of(desc, "id"), 50);

@@ -15,7 +15,8 @@ static const char *ending(uint64_t count)
 
 /* ---- The picture ---- */
 
-/* Where in a digit's field the middle of each segment a to g lies: left, middle or right; and how far down, in quarters. */
+/* Where in a digit's field the middle of each segment a to g lies: left, middle or right; and how far down, in
+   quarters. */
 static const struct {
     int across, down;
 } middle[SEGMENTS] = {{1, 0}, {2, 1}, {2, 3}, {1, 4}, {0, 3}, {0, 1}, {1, 2}};
@@ -53,7 +54,8 @@ static void check_place(struct node *element, const struct asked *asked, unsigne
     static int last_x, last_y;
     const unsigned lamps_from = SEGMENTS * asked->digits;
     const char *transform = value_of(element->parent, "transform");
-    const unsigned in_row = number < lamps_from ? number / SEGMENTS % DIGITS_IN_ROW : (number - lamps_from) % asked->columns;
+    const unsigned in_row = number < lamps_from ? number / SEGMENTS % DIGITS_IN_ROW
+                                                : (number - lamps_from) % asked->columns;
     int x = 0, y = 0;
 
     if (number < lamps_from && number % SEGMENTS > 0)
@@ -77,7 +79,8 @@ static void check_element(struct node *element, const struct asked *asked, const
           stand->events, number, lit ? "lit" : "dark");
     check(has_class(element, lit ? "lit" : "dark") && !has_class(element, lit ? "dark" : "lit"),
           "after %" PRIu64 " events element %u must look %s", stand->events, number, lit ? "lit" : "dark");
-    check(cell != NULL && strtoul(cell, NULL, 16) == wired[0] * 256u + wired[1], "element %u is wired to another cell", number);
+    check(cell != NULL && strtoul(cell, NULL, 16) == wired[0] * 256u + wired[1],
+          "element %u is wired to another cell", number);
     check(bit != NULL && strtoul(bit, NULL, 10) == wired[2], "element %u is wired to another bit", number);
     check_text(find(element, "title", NULL), "an element's title", "element %u, cell $%03X bit %u: %s", number,
                wired[0] * 256u + wired[1], wired[2], lit ? "lit" : "dark");
@@ -96,7 +99,8 @@ static void check_described(struct node *svg, const struct stand *stand)
     for (unsigned number = 0; number < stand->elements; number++)
         lit += stand->picture[number];
     if (lit == 0) {
-        check_text(find(svg, "desc", NULL), "a picture's description", "All %u elements are dark.", (unsigned)stand->elements);
+        check_text(find(svg, "desc", NULL), "a picture's description", "All %u elements are dark.",
+                   (unsigned)stand->elements);
         return;
     }
     at += sprintf(at, "%u of %u elements lit:", lit, (unsigned)stand->elements);
@@ -136,14 +140,15 @@ static void check_panel(struct node *section, const struct asked *asked, const s
 
 /* ---- The level ---- */
 
-static void check_reading(struct node *section, const char *row_class, unsigned base, const struct stand *stand, unsigned ground)
+static void check_reading(struct node *section, const char *row_class, unsigned base, const struct stand *stand,
+                          unsigned ground)
 {
     struct node *row = find(section, "tr", row_class), *code = row != NULL ? find(row, "td", NULL) : NULL;
     unsigned sum = base * stand->digit[0] + stand->digit[1];
 
     check_text(code, "a reading's code", "%u \u00D7 %u + %u = %u", base, stand->digit[0], stand->digit[1], sum);
-    check_text(code != NULL ? find_next(row, code, "td", NULL) : NULL, "a reading's level", "%u \u2212 %u = %s", sum, ground,
-               shown_level((long)sum - (long)ground));
+    check_text(code != NULL ? find_next(row, code, "td", NULL) : NULL, "a reading's level", "%u \u2212 %u = %s", sum,
+               ground, shown_level((long)sum - (long)ground));
 }
 
 static void check_level(struct node *section, const struct expected *expected, const struct stand *stand)
@@ -152,8 +157,9 @@ static void check_level(struct node *section, const struct expected *expected, c
     const unsigned long far = (unsigned long)labs(octal);
     struct node *verdict = find(section, "p", "verdict"), *level = find(section, "p", "level");
 
-    check_text(find(section, "p", "digits"), "the digits", "High digit %u in cell $%03X, low digit %u in cell $%03X, ground "
-               "code %u", stand->digit[0], expected->cell[0], stand->digit[1], expected->cell[1], expected->ground);
+    check_text(find(section, "p", "digits"), "the digits", "High digit %u in cell $%03X, low digit %u in cell $%03X, "
+               "ground code %u", stand->digit[0], expected->cell[0], stand->digit[1], expected->cell[1],
+               expected->ground);
     if (stand->level_told.number != 0) {
         struct node *words = level != NULL ? find_next(section, level, "p", "refused") : NULL;
         char wanted[64];
@@ -176,8 +182,8 @@ static void check_level(struct node *section, const struct expected *expected, c
     if (octal == decimal)
         check_text(verdict, "the verdict", "Both readings agree: with a high digit of 0 they cannot differ.");
     else
-        check_text(verdict, "the verdict", "The readings differ. The decimal one is the wrong stop: work at level %s would be "
-                   "filed under level %s.", shown_level(octal), shown_level(decimal));
+        check_text(verdict, "the verdict", "The readings differ. The decimal one is the wrong stop: work at level %s "
+                   "would be filed under level %s.", shown_level(octal), shown_level(decimal));
 }
 
 /* ---- One stop, and all ---- */
@@ -204,15 +210,18 @@ static void check_stand(struct node *section, const struct asked *asked, const s
     snprintf(wanted, sizeof wanted, "panel-%zu", at);
     check(id != NULL && strcmp(id, wanted) == 0, "%s has another id", wanted);
     check(place != NULL && strcmp(place, stand->place) == 0, "%s must be at the %s", wanted, stand->place);
-    check(events != NULL && strtoull(events, NULL, 10) == stand->events, "%s is after %" PRIu64 " events", wanted, stand->events);
-    check(more != NULL && strtoull(more, NULL, 10) == stand->more, "%s has %" PRIu64 " more alike", wanted, stand->more);
-    check_text(find(section, "h3", NULL), "a stop's heading", "%s, after %" PRIu64 " event%s", where(expected, asked, stand),
-               stand->events, ending(stand->events));
+    check(events != NULL && strtoull(events, NULL, 10) == stand->events, "%s is after %" PRIu64 " events", wanted,
+          stand->events);
+    check(more != NULL && strtoull(more, NULL, 10) == stand->more, "%s has %" PRIu64 " more alike", wanted,
+          stand->more);
+    check_text(find(section, "h3", NULL), "a stop's heading", "%s, after %" PRIu64 " event%s",
+               where(expected, asked, stand), stand->events, ending(stand->events));
     if (stand->more == 0)
         check(folded == NULL, "more stops than there are");
     else
-        check_text(folded, "folded stops", "The same at %" PRIu64 " more stop%s, up to the one after %" PRIu64 " events.",
-                   stand->more, ending(stand->more), stand->until);
+        check_text(folded, "folded stops",
+                   "The same at %" PRIu64 " more stop%s, up to the one after %" PRIu64 " events.", stand->more,
+                   ending(stand->more), stand->until);
     check_panel(section, asked, stand);
     check_level(section, expected, stand);
 }
@@ -222,8 +231,8 @@ static void check_row(struct node *row, const struct asked *asked, const struct 
     const struct stand *stand = &expected->stand[at];
     const long decimal = stand->level + 2l * stand->digit[0];
     char wanted[160];
-    int begun = snprintf(wanted, sizeof wanted, "%s%" PRIu64 "%" PRIu64 "%u, %u", where(expected, asked, stand), stand->events,
-                         stand->more + 1, stand->digit[0], stand->digit[1]);
+    int begun = snprintf(wanted, sizeof wanted, "%s%" PRIu64 "%" PRIu64 "%u, %u", where(expected, asked, stand),
+                         stand->events, stand->more + 1, stand->digit[0], stand->digit[1]);
 
     if (stand->level_told.number == 0) {
         snprintf(wanted + begun, sizeof wanted - (size_t)begun, "%s", shown_level(stand->level));
@@ -258,8 +267,9 @@ void check_stands(struct node *root, const struct asked *asked, const struct exp
     check(stands == expected->stands && rows == stands, "%zu panels and %zu rows for %zu stops", stands, rows,
           expected->stands);
     if (expected->left_out > 0)
-        check_text(left_out, "stops that are not drawn", "Not drawn: %" PRIu64 " more stop%s between the one above and the end. "
-                   "A page has %d panels at most.", expected->left_out, ending(expected->left_out), STANDS_MOST);
+        check_text(left_out, "stops that are not drawn", "Not drawn: %" PRIu64 " more stop%s between the one above and "
+                   "the end. A page has %d panels at most.", expected->left_out, ending(expected->left_out),
+                   STANDS_MOST);
     else
         check(left_out == NULL || value_of(left_out, "data-left-out") == NULL, "stops are said to be left out");
 }

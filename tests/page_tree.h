@@ -1,5 +1,5 @@
-/* A page of the desk's report, read strictly: as XML of the narrow kind that the desk writes, and as what a browser makes of
-   it, so that both see the same tree. Nothing here is shared with what writes it. */
+/* A page of the desk's report, read strictly: as XML of the narrow kind that the desk writes, and as what a browser
+   makes of it, so that both see the same tree. Nothing here is shared with what writes it. */
 #ifndef TESTS_PAGE_TREE_H
 #define TESTS_PAGE_TREE_H
 
@@ -20,7 +20,8 @@ struct node {
     struct node *parent, *first, *last, *next;
 };
 
-/* The page's root; NULL where it is not well formed, and then *why and the line tell of the first thing that is wrong. */
+/* The page's root; NULL where it is not well formed, and then *why and the line tell of the first thing that is wrong.
+   */
 struct node *read_page(const char *text, size_t length, const char **why, unsigned long *line);
 
 /* The next node of a tree in the order of the page; NULL behind its last. */

@@ -65,9 +65,9 @@ static void check_book(struct node *root, const struct asked *asked, const struc
     check_text(body, "the bodies",
                "\nProgram8192%u words, of these %u NOP and %u that %s no instruction\n"
                "Wiring%u%u element%s of the panel\n"
-               "Level5high digit in cell $%03X, low digit in cell $%03X, ground code %u\n", SECOND_WORDS, blank, unlisted,
-               unlisted == 1 ? "is" : "are", 3 * elements, elements, elements == 1 ? "" : "s", expected->cell[0],
-               expected->cell[1], expected->ground);
+               "Level5high digit in cell $%03X, low digit in cell $%03X, ground code %u\n", SECOND_WORDS, blank,
+               unlisted, unlisted == 1 ? "is" : "are", 3 * elements, elements, elements == 1 ? "" : "s",
+               expected->cell[0], expected->cell[1], expected->ground);
     for (unsigned at = 0; at < elements; at++, element += 3) {
         check_text(item, "an element's wiring", "%u $%03X.%u", at, element[0] * 256u + element[1], element[2]);
         item = item != NULL ? find_next(wiring, item, "li", NULL) : NULL;
@@ -93,13 +93,16 @@ static void check_end(struct node *root, const struct asked *asked, const struct
         check(says(section, wanted), "that no event was done");
         return;
     }
-    snprintf(wanted, sizeof wanted, "%" PRIu64 " of %zu event%s done; the run ended %s", expected->done, asked->script_len,
+    snprintf(wanted, sizeof wanted, "%" PRIu64 " of %zu event%s done; the run ended %s", expected->done,
+             asked->script_len,
              asked->script_len == 1 ? "" : "s",
-             expected->reason == SECOND_AT_END ? "at the script\u2019s end." : "before a word that is no instruction, at $");
+             expected->reason == SECOND_AT_END ? "at the script\u2019s end." : "before a word that is no instruction, "
+                                                                               "at $");
     check(says(section, wanted), "how the run ended: %s", wanted);
     snprintf(wanted, sizeof wanted, "with PC at $%03X.", expected->end_pc);
     check(says(section, wanted), "where the run ended: %s", wanted);
-    snprintf(wanted, sizeof wanted, ": %" PRIu64 " times in all. At %" PRIu64 " of these the decimal reading is a wrong stop.",
+    snprintf(wanted, sizeof wanted, ": %" PRIu64 " times in all. At %" PRIu64 " of these the decimal reading is a "
+                                                                              "wrong stop.",
              expected->looks, expected->differing);
     check(says(section, wanted), "how often the readings differ: %s", wanted);
 }

@@ -39,7 +39,7 @@ makes() {
 
 echo "report: help and wrong use"
 ends 0 report --help
-says out 'usage: desk report BOOK [--script FILE [--stop HEX] [--raw-script] [--state FILE | --options N]] --out FILE.html'
+says out 'usage: desk report BOOK [--script FILE [--stop HEX] [--raw-script] [--state FILE | --options N]]'
 says out 'the status is 1'
 says out 'EVENT*N'
 quiet
@@ -143,7 +143,8 @@ cp example.html before.html
 ends 0 report "$book" --script "$script" --stop 010 --digits 2 --out page.html --force
 same page.html before.html
 mkdir elsewhere
-(cd elsewhere && TZ=Asia/Tokyo LC_ALL=C "$desk" report "$book" --script "$script" --stop 010 --digits 2 --out page.html --force >/dev/null)
+(cd elsewhere && TZ=Asia/Tokyo LC_ALL=C "$desk" report "$book" --script "$script" --stop 010 --digits 2 \
+    --out page.html --force >/dev/null)
 same elsewhere/page.html before.html
 
 echo "report: what is refused"
@@ -238,7 +239,9 @@ reports 0 jumps.book --script thousand.script --stop 0A5
 reports 0 jumps.book
 # Any word, from a generator; every cell of every kind has writers, and those through $00F.
 bytes_of() {
-    awk -v seed="$1" 'BEGIN { for (at = 0; at < 8192; at++) { seed = (seed * 16807) % 2147483647; printf "\\%03o", int(seed / 4096) % 256 } }'
+    awk -v seed="$1" 'BEGIN { for (at = 0; at < 8192; at++) {
+        seed = (seed * 16807) % 2147483647
+        printf "\\%03o", int(seed / 4096) % 256 } }'
 }
 for seed in 6754 67; do
     # shellcheck disable=SC2059
@@ -256,7 +259,8 @@ page_says '801–FFF: NOP, 2047 words'
 echo "report: panels"
 # 240 elements, as 34 digits and 2 lamps, and as lamps.
 awk 'BEGIN { for (at = 0; at < 240; at++) printf "$%03X.%d\n", 768 + int(at / 4), at % 4 }' >large.wiring
-printf ' LDI $007, 4\n LDI $020, 5\n STA $300\n STA $301\n LDI $020, 10\n STA $33B\n STA $320\nhere: JMP here\n' >large.asm
+printf ' LDI $007, 4\n LDI $020, 5\n STA $300\n STA $301\n LDI $020, 10\n STA $33B\n STA $320\n' >large.asm
+printf 'here: JMP here\n' >>large.asm
 ends 0 book make large.book large.asm large.wiring small.level
 for words in '--digits 34' '--digits 9 --columns 7' '--columns 240' '--columns 1' ''; do
     # shellcheck disable=SC2086
@@ -274,15 +278,16 @@ shown='<b>&"'"'"'\ \x01\x1B[31m\x7F\x80\xFF\xC2\x85\xE2\x80\xAE'$(printf '\303\2
 cp "$book" "$nasty.book"
 cp below.script "$nasty.script"
 ends 0 report "$nasty.book" --script "$nasty.script" --state ready.state --title "$nasty" --out "$nasty.html"
-judged "$nasty.html" "$book" --script below.script --state ready.state --shown-title "$shown" --shown-book "$shown.book" \
-    --shown-script "$shown.script"
+judged "$nasty.html" "$book" --script below.script --state ready.state --shown-title "$shown" \
+    --shown-book "$shown.book" --shown-script "$shown.script"
 grep -qF '<b>&"' "$nasty.html" && wrong "a name is not escaped" || ok
 ends 0 report "$nasty.book" --title '' --out page.html --force
 judged page.html "$book" --shown-book "$shown.book"
 for title in ' ' '</title><script>alert(1)</script>' ']]>' '&lt;' '-->' '<!--' "$(printf '\360\237\233\227 \316\251')" \
     '{}' '%s%n' "$(printf 'two\nlines')"; do
     ends 0 report "$book" --title "$title" --out page.html --force
-    judged page.html "$book" --shown-title "$(printf '%s' "$title" | awk 'NR > 1 { printf "\\x0A" } { printf "%s", $0 }')"
+    judged page.html "$book" \
+        --shown-title "$(printf '%s' "$title" | awk 'NR > 1 { printf "\\x0A" } { printf "%s", $0 }')"
 done
 # Bytes that begin no character, one by one, and the longest forms of short codes.
 for bytes in '\300\200' '\355\240\200' '\364\220\200\200' '\370\210\200\200\200' '\340\200\257' '\303' '\342\202' \
@@ -307,7 +312,8 @@ made_by() {
 made_by example.html "$book" --script "$script" --stop 010 --digits 2 --out page.html --force
 ends 0 report "$nasty.book" --title "$nasty" --out page.html --force
 made_by page.html "$nasty.book" --title "$nasty" --out page.html --force
-for word in '' "it's" 'a b' '$HOME' '`date`' '*' 'a\b' '"' '!!' '~' '#' "$(printf 'tab\there')" "$(printf '\\x41\377\047')"; do
+for word in '' "it's" 'a b' '$HOME' '`date`' '*' 'a\b' '"' '!!' '~' '#' "$(printf 'tab\there')" \
+    "$(printf '\\x41\377\047')"; do
     ends 0 report "$book" --title "$word" --out page.html --force
     made_by page.html "$book" --title "$word" --out page.html --force
 done
@@ -355,7 +361,12 @@ found() {
     cmp -s broken.html example.html && wrong "$said: nothing is changed"
     "$checker" broken.html "$book" --script "$script" --stop 010 --digits 2 >verdict 2>&1
     status=$?
-    if [ $status = 1 ] && grep -q '^WRONG' verdict; then ok; else wrong "$said: not found, status $status"; cat verdict; fi
+    if [ $status = 1 ] && grep -q '^WRONG' verdict; then
+        ok
+    else
+        wrong "$said: not found, status $status"
+        cat verdict
+    fi
 }
 found 's/data-element="1" data-lit="1"/data-element="1" data-lit="0"/'
 found 's/class="lit" data-element="8"/class="dark" data-element="8"/'
