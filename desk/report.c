@@ -191,12 +191,12 @@ static void need_script(const struct command *command, const char *script, const
 /* Where the run begins. That a fresh machine is refused is told in the page too, so it is not said yet. */
 static void take_start(struct report *report, const struct command *command, const struct course *course)
 {
-    uint32_t options = course->options != NULL ? decimal_from(command, course->options, UINT32_MAX) : 0;
-
+    report->state_path = course->state;
+    report->options = course->options != NULL ? decimal_from(command, course->options, UINT32_MAX) : 0;
     if (course->state != NULL)
         read_state(course->state, &report->run.start);
     else
-        report->start_answer.refusal = ask_fresh(&report->run.start, options, &report->start_answer.value);
+        report->start_answer.refusal = ask_fresh(&report->run.start, report->options, &report->start_answer.value);
 }
 
 enum status work_report(const struct command *command, int count, char **words)

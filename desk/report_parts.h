@@ -20,7 +20,8 @@ struct report {
     struct writers writers[DIGITS];
 
     /* Of a script: */
-    uint32_t stop;
+    const char *state_path; /* NULL for a fresh chip, with these options */
+    uint32_t options, stop;
     struct answer start_answer, run_answer;
     struct run run;
     struct stops stops;

@@ -210,6 +210,20 @@ static void put_unbegun(struct report *report)
     put(page, "</p>\n");
 }
 
+/* What the chip was before the first event. */
+static void put_start(struct report *report)
+{
+    struct page *page = &report->page;
+
+    if (report->state_path == NULL) {
+        put_form(page, "as it is when just switched on, with options %lu", (unsigned long)report->options);
+        return;
+    }
+    put(page, "in the state of <code>");
+    put_text(page, report->state_path);
+    put(page, "</code>");
+}
+
 void put_run(struct report *report)
 {
     struct page *page = &report->page;
@@ -218,9 +232,11 @@ void put_run(struct report *report)
         put(page, "<p>No script was given, so nothing was run: this page tells of the book alone.</p>\n");
         return;
     }
-    put(page, "<p>The events of the script <code>");
+    put(page, "<p>The script <code>");
     put_text(page, report->script_path);
-    put(page, "</code> happened to the book\u2019s chip.</p>\n");
+    put(page, "</code>, on the book\u2019s chip ");
+    put_start(report);
+    put(page, ".</p>\n");
     if (has_run(report))
         put_end(report);
     else

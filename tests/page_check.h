@@ -14,7 +14,7 @@ struct asked {
     uint32_t stop, options;
     unsigned digits, columns;
     uint8_t memory[SECOND_CELLS], record[SECOND_RECORD_BYTES]; /* where the run begins, if a state is given */
-    const char *shown_title, *shown_book, *shown_script;
+    const char *state, *shown_title, *shown_book, *shown_script;
 };
 
 enum { ELEMENTS_MOST = 240, DIGITS = 2, STANDS_MOST = 40, CHANGES_MOST = 200, LINE_ROOM = 32 };

@@ -108,6 +108,7 @@ static void take_state(struct asked *asked, const char *path)
     memcpy(asked->memory, state.at, SECOND_CELLS);
     memcpy(asked->record, state.at + SECOND_CELLS, SECOND_RECORD_BYTES);
     asked->has_state = true;
+    asked->state = path;
 }
 
 /* The words behind the page and the book. */

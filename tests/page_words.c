@@ -82,6 +82,19 @@ static bool says(struct node *section, const char *text)
     return section != NULL && strstr(text_of(section), text) != NULL;
 }
 
+static void check_start(struct node *section, const struct asked *asked)
+{
+    char wanted[WORD_ROOM];
+
+    if (asked->has_state)
+        snprintf(wanted, sizeof wanted, "The script %s, on the book\u2019s chip in the state of %s.\n",
+                 asked->shown_script, asked->state);
+    else
+        snprintf(wanted, sizeof wanted, "The script %s, on the book\u2019s chip as it is when just switched on, with "
+                 "options %u.\n", asked->shown_script, asked->options);
+    check(says(section, wanted), "where the run begins: %s", wanted);
+}
+
 static void check_end(struct node *root, const struct asked *asked, const struct expected *expected)
 {
     struct node *section = with_id(root, "run");
@@ -145,6 +158,7 @@ void check_words(struct node *root, const struct asked *asked, const struct expe
     check_book(root, asked, expected);
     check_text(book != NULL ? find(book, "code", NULL) : NULL, "the book's path", "%s", asked->shown_book);
     if (asked->has_script) {
+        check_start(run, asked);
         check_text(run != NULL ? find(run, "code", NULL) : NULL, "the script's path", "%s", asked->shown_script);
         check_end(root, asked, expected);
     } else {
