@@ -79,6 +79,9 @@ const char *const report_style[] = {
     ".lit circle{fill:var(--lamp);stroke:var(--lamp-edge);stroke-width:2}",
     ".rays{fill:none;stroke:var(--lamp-edge);stroke-width:2;stroke-linecap:round}",
     ".dark circle{fill:none;stroke:var(--hollow);stroke-width:1.2;stroke-dasharray:2.5 2}",
+    ".xref th:first-child{width:11rem}",
+    "@media screen and (max-width:32rem){body{padding:1.2rem 1rem 3rem}nav ol{columns:1}.stand{padding:0 .7rem .8rem}"
+    "th,td{padding:.35rem .3rem}.xref th:first-child{width:7rem}}",
     "@page{size:A4;margin:16mm 15mm 18mm;@bottom-right{content:\"page \" counter(page) \" of \" counter(pages);"
     "font:8pt sans-serif}}",
     "@media print{html{font-size:12.5px}body{max-width:none;padding:0;font-size:1rem}nav{display:none}"
