@@ -243,7 +243,7 @@ test: build/plain/header build/plain/header-cpp build/plain/desk build/plain/com
 	    "tests/debug.sh build/plain/desk build/native/forgetful" \
 	    "tests/trace.sh build/plain/desk build/native/deaf build/native/followed $(DRAWS)" \
 	    "tests/report.sh build/plain/desk build/native/page-checker" $(STACK_TEST) \
-	    "tests/terminal.sh build/plain/desk build/native/slow build/native/terminal" \
+	    "tests/terminal.sh build/plain/desk build/native/slow build/native/terminal" "tests/readme.sh build/plain/desk" \
 	    "tests/install.sh '$(LINKED_CC)' '$(LINKED_CXX)' '$(LINK_TO)' $(LIB)" \
 	    "build/native/trials build/trials" \
 	    "tests/beside.sh 'build/plain/compare calls --trials build/trials' 'build/plain/compare runs --book $(BOOK) --events $(EVENTS)'"

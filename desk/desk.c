@@ -6,6 +6,7 @@
 #include "demo.h"
 #include "drawing.h"
 #include "explain.h"
+#include "made.h"
 #include "manual.h"
 #include "patch.h"
 #include "report.h"
@@ -485,7 +486,7 @@ static enum status work_line(void *with)
         return DONE;
     }
     if (argc == 2 && strcmp(argv[1], "--version") == 0) {
-        printf("desk, galhoveia " GALHOVEIA_VERSION "\n");
+        printf("desk, galhoveia " GALHOVEIA_VERSION ", commit %s\n", made_of);
         return DONE;
     }
     for (int at = 0; at < COMMANDS; at++) {

@@ -15,7 +15,8 @@ ends 0 --help
 says out 'desk writers BOOK CELL'
 quiet
 ends 0 book --help
-for command in demo fresh run run-two level picture writers xref patch report listing program 'book check' 'book make'; do
+for command in demo fresh run trace run-two debug level picture writers xref patch report listing program 'book check' \
+    'book make' manual; do
     # shellcheck disable=SC2086
     ends 0 $command --help
     says out "usage: desk $command"
@@ -47,10 +48,18 @@ ends 2
 says err 'desk demo'
 ends 2 nonsense
 says err 'no such command: nonsense'
+says err 'desk --help names them'
+ends 2 manual more
+says err 'one word too many: more'
+ends 0 --version
+says out 'desk, galhoveia '
+says out ', commit '
+quiet
 ends 2 book
 ends 2 book burn
 says err 'no such command: book burn'
-for command in fresh run run-two level picture writers xref patch report listing program 'book check' 'book make'; do
+for command in fresh run trace run-two debug level picture writers xref patch report listing program 'book check' \
+    'book make'; do
     # shellcheck disable=SC2086
     ends 2 $command
     says err "usage: desk $command"
