@@ -9,7 +9,7 @@ const char *const report_style[] = {
     "--ink:#1c2126;--soft:#566069;--paper:#fff;--wash:#f3f5f7;--rule:#d5dbe0;--link:#0b57a4;"
     "--warn:#9a3412;--warn-wash:#fff3e8;"
     "--plate:#dfe3e7;--plate-edge:#8b959e;--screw:#b4bcc4;--glass:#e9f0e4;--glass-edge:#6c766a;"
-    "--lit:#10150f;--unlit:#8d9a88;--lamp:#c8660a;--lamp-edge:#5e2f02;--hollow:#77828c}",
+    "--lit:#10150f;--unlit:#77856f;--lamp:#c8660a;--lamp-edge:#5e2f02;--hollow:#6b7680}",
     "@media screen and (prefers-color-scheme:dark){:root{"
     "--ink:#e4e8ec;--soft:#a3adb7;--paper:#15181c;--wash:#1e2328;--rule:#363d45;--link:#8ec3ff;"
     "--warn:#ffb47a;--warn-wash:#33241a;"
