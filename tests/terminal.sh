@@ -97,11 +97,12 @@ expect  events done of 1000000000; stopped by ctrl-C
 expect desk> 
 key C-c
 expect desk> 
-type level
-expect level 
-expect desk> 
 type back
 expect after 0 events
+expect desk> 
+type level
+expect level -2
+expect desk> 
 type step
 expect ADIM 020 1
 type 
