@@ -79,6 +79,15 @@ void go_on(struct run *run)
     run->done = 0;
 }
 
+size_t count_done(const struct run *run, uint8_t event)
+{
+    size_t count = 0;
+
+    for (uint64_t at = 0; at < run->done; at++)
+        count += run->events.at[at] == event;
+    return count;
+}
+
 uint32_t step_once(const struct book *book, struct state *state, uint8_t event, uint64_t *value)
 {
     return galhoveia_step(book->program.at, book->program.length, state->memory, sizeof state->memory, state->record,

@@ -36,6 +36,9 @@ uint32_t run_part(const struct book *book, struct state *state, struct bytes eve
    not said. */
 uint32_t judge_events(const struct book *book, const struct state *state, struct bytes events, uint64_t *value);
 
+/* How many of the events that a run has done are this one. */
+size_t count_done(const struct run *run, uint8_t event);
+
 /* Lets one event happen. Answers 0 or the refusal, which is not said. */
 uint32_t step_once(const struct book *book, struct state *state, uint8_t event, uint64_t *value);
 

@@ -40,15 +40,6 @@ static bool see(void *with, const struct moment *moment)
     return true;
 }
 
-static uint64_t cycles_in(const struct run *run)
-{
-    uint64_t cycles = 0;
-
-    for (uint64_t at = 0; at < run->done; at++)
-        cycles += run->events.at[at] == GALHOVEIA_EVENT_CYCLE;
-    return cycles;
-}
-
 /* Shows the events that the run has done, one by one. Answers false for a fault, which is said. */
 static bool show_events(struct trace *trace)
 {
@@ -58,7 +49,7 @@ static bool show_events(struct trace *trace)
     if (wanted->lines)
         show_moments_head(stdout);
     if (wanted->vcd != NULL)
-        begin_dump(&trace->dump, trace->whole.book, &trace->shown.start, cycles_in(&trace->lead));
+        begin_dump(&trace->dump, trace->whole.book, &trace->shown.start, count_done(&trace->lead, GALHOVEIA_EVENT_CYCLE));
     if (!wanted->lines || !isatty(STDOUT_FILENO)) /* lines on a terminal are seen to move */
         begin_progress("events traced", trace->shown.done);
     faultless = see_events(&trace->shown, wanted->from, see, trace);

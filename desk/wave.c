@@ -55,22 +55,13 @@ static uint32_t listen(struct sound *sound, const struct run *run, struct state 
     return GALHOVEIA_DONE;
 }
 
-static size_t clocks_in(const struct run *run)
-{
-    size_t clocks = 0;
-
-    for (uint64_t at = 0; at < run->done; at++)
-        clocks += run->events.at[at] == GALHOVEIA_EVENT_SOUND;
-    return clocks;
-}
-
 bool hear(struct sound *sound, const struct run *run)
 {
     struct state now = run->start;
     uint64_t value = 0;
     uint32_t refusal;
 
-    *sound = (struct sound){take_memory(clocks_in(run) + 1, 1), 0};
+    *sound = (struct sound){take_memory(count_done(run, GALHOVEIA_EVENT_SOUND) + 1, 1), 0};
     sound->outputs[0] = outputs_of(&now);
     begin_progress("events heard", run->done);
     refusal = listen(sound, run, &now, &value);
