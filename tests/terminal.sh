@@ -51,11 +51,16 @@ no_parts
 at 0 '' "$desk" run "$book" "$script"
 says_not out "$(printf '\r%s' "$told")"
 says out "stopped at the script's end"
-# What is told goes to standard error, and is taken away before the end.
-printf 'cycle*5000000' >seconds.script
+# What is told goes to standard error, and is taken away before the end. As many events as take three seconds here.
+printf 'cycle*500000' >probe.script
+began=$(date +%s%N)
+ends 0 run busy.book probe.script --watch 021
+milliseconds=$((($(date +%s%N) - began) / 1000000 + 1))
+events=$((500000 / milliseconds * 3000))
+printf 'cycle*%s' $events >seconds.script
 at 0 'expect events looked at, 1 s
 ' sh -c '"$1" run busy.book seconds.script --watch 021 >shown' sh "$desk"
-says shown '5000000 of 5000000 events done'
+says shown "$events of $events events done"
 if grep -q "$(printf '\r')" shown; then wrong "$said: progress on standard output"; else ok; fi
 case $(tail -c 4 out) in *"$(printf '\r\033[K')") ok ;; *) wrong "$said: what is told is not taken away" ;; esac
 # Where standard error is no terminal nothing is told.
