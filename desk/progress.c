@@ -5,14 +5,34 @@
 
 #include <errno.h>
 #include <signal.h>
+#include <stdbool.h>
 #include <sys/time.h>
+#include <time.h>
 #include <unistd.h>
 
-enum { FIRST_SECONDS = 1, THEN_MICROSECONDS = 250000, TICKS_A_SECOND = 4, LINE_ROOM = 128 };
+enum { MICROSECONDS = 1000000, FIRST = MICROSECONDS, THEN = MICROSECONDS / 4, LINE_ROOM = 128 };
 
 static const char *called;
 static volatile uint64_t all_things, things_done;
-static volatile sig_atomic_t ticks;
+static volatile sig_atomic_t told; /* something stands on the terminal */
+
+/* When the command began, or the debugger's line. */
+static struct timespec began;
+static bool has_begun;
+
+static uint64_t microseconds_since(void)
+{
+    struct timespec now;
+
+    clock_gettime(CLOCK_MONOTONIC, &now);
+    return (uint64_t)((now.tv_sec - began.tv_sec) * MICROSECONDS + (now.tv_nsec - began.tv_nsec) / 1000);
+}
+
+void start_clock(void)
+{
+    clock_gettime(CLOCK_MONOTONIC, &began);
+    has_begun = true;
+}
 
 /* Numbers and texts put into a line by hand, since a signal's work may not print. */
 struct line {
@@ -41,7 +61,7 @@ static void add_number(struct line *line, uint64_t number)
 static void put(const struct line *line)
 {
     if (write(STDERR_FILENO, line->text, line->length) < 0)
-        ticks = 0; /* a terminal that is gone takes nothing more */
+        told = 0; /* a terminal that is gone takes nothing more */
 }
 
 /* The line begins at its front and ends in blanks, so that the next one covers it. */
@@ -60,15 +80,16 @@ static void tell(int signal)
     }
     add_text(&line, called);
     add_text(&line, ", ");
-    add_number(&line, FIRST_SECONDS + (unsigned)ticks++ / TICKS_A_SECOND);
+    add_number(&line, microseconds_since() / MICROSECONDS);
     add_text(&line, " s   ");
+    told = 1;
     put(&line);
     errno = kept;
 }
 
-static void set_timer(long seconds, long then_microseconds)
+static void set_timer(long first, long then)
 {
-    const struct itimerval timer = {{0, then_microseconds}, {seconds, 0}};
+    const struct itimerval timer = {{0, then}, {first / MICROSECONDS, first % MICROSECONDS}};
 
     setitimer(ITIMER_REAL, &timer, NULL);
 }
@@ -76,13 +97,17 @@ static void set_timer(long seconds, long then_microseconds)
 void begin_progress(const char *what, uint64_t all)
 {
     const struct sigaction action = {.sa_handler = tell, .sa_flags = SA_RESTART};
+    uint64_t since;
 
+    if (!has_begun)
+        start_clock();
     called = what;
     all_things = all;
     things_done = 0;
-    ticks = 0;
-    if (isatty(STDERR_FILENO) && sigaction(SIGALRM, &action, NULL) == 0)
-        set_timer(FIRST_SECONDS, THEN_MICROSECONDS);
+    if (!isatty(STDERR_FILENO) || sigaction(SIGALRM, &action, NULL) != 0)
+        return;
+    since = microseconds_since();
+    set_timer(since < FIRST ? (long)(FIRST - since) : THEN, THEN);
 }
 
 void progress_at(uint64_t done)
@@ -94,7 +119,7 @@ void clear_progress(void)
 {
     static const struct line cleared = {"\r\033[K", 4};
 
-    if (ticks > 0)
+    if (told)
         put(&cleared);
 }
 
@@ -102,5 +127,5 @@ void end_progress(void)
 {
     set_timer(0, 0);
     clear_progress();
-    ticks = 0;
+    told = 0;
 }

@@ -11,6 +11,10 @@ void begin_progress(const char *what, uint64_t all);
 void progress_at(uint64_t done);
 void end_progress(void);
 
+/* The second that passes before anything is told, and those that are told, count from here, however many works follow
+   each other; where it is never said, from the first work. */
+void start_clock(void);
+
 /* Takes away what is told, before something else is shown while the work goes on. */
 void clear_progress(void);
 
