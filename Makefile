@@ -16,8 +16,8 @@ STRICT = -Wall -Wextra -pedantic
 CFLAGS = -O2 $(STRICT)
 SANITIZE = -fsanitize=address,undefined -fno-sanitize-recover=all -fno-omit-frame-pointer
 
-# What is missing is told before anything starts that needs it.
-ifneq ($(filter-out clean uninstall,$(or $(MAKECMDGOALS),all)),)
+# What is missing is told before anything starts that needs it. What is built can be installed without it.
+ifneq ($(filter-out clean uninstall $(if $(wildcard build/plain/desk),install),$(or $(MAKECMDGOALS),all)),)
 MISSING := $(shell tests/missing.sh rt $(firstword $(CC)) $(firstword $(CXX)))
 ifneq ($(MISSING),)
 $(error $(MISSING))

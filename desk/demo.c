@@ -1,4 +1,5 @@
 /* The demonstration: an example lift's panel, level and chime, who can write the level, and who did. */
+#define _DEFAULT_SOURCE
 #include "demo.h"
 
 #include "drawing.h"
@@ -8,8 +9,10 @@
 #include "watch.h"
 #include "wave.h"
 
+#include <limits.h>
 #include <stdio.h>
 #include <string.h>
+#include <unistd.h>
 
 /* Where dispatcher.asm waits for the next call (its label asleep), and how many digits its wiring begins with. */
 enum { DEMO_STOP = 0x010, DEMO_DIGITS = 2 };
@@ -89,9 +92,33 @@ static enum status demo_two_cars(const struct book *book, struct bytes script)
     return run_two_cars(&cars, (struct look){false, DEMO_DIGITS, COLUMNS_BESIDE}, false);
 }
 
+/* Where make install has put the examples, beside the folder of the program itself; the caller gives it back. */
+static char *installed_examples(void)
+{
+    char program[PATH_MAX];
+    ssize_t length = readlink("/proc/self/exe", program, sizeof program - 1);
+    char *slash;
+
+    program[length > 0 ? length : 0] = '\0';
+    slash = strrchr(program, '/');
+    if (slash != NULL)
+        *slash = '\0';
+    return path_in(program, "../share/galhoveia/examples");
+}
+
+static bool has_example(const char *folder)
+{
+    char *book = path_in(folder, "dispatcher.book");
+    bool there = access(book, R_OK) == 0;
+
+    give_back(book);
+    return there;
+}
+
 enum status work_demo(const struct command *command, int count, char **words)
 {
     const char *folder[1] = {"examples"};
+    char *installed = installed_examples();
     const struct option known[] = {{NULL, NULL, NULL}};
     struct book book;
     struct bytes script, two_cars;
@@ -100,6 +127,8 @@ enum status work_demo(const struct command *command, int count, char **words)
 
     if (count > 0)
         take_words(command, count, words, known, folder, 1);
+    else if (!has_example(folder[0]) && has_example(installed))
+        folder[0] = installed;
     book_path = path_in(folder[0], "dispatcher.book");
     script_path = path_in(folder[0], "dispatcher.script");
     two_cars_path = path_in(folder[0], "science-block.script");
@@ -123,5 +152,6 @@ enum status work_demo(const struct command *command, int count, char **words)
     give_back(book_path);
     give_back(script_path);
     give_back(two_cars_path);
+    give_back(installed);
     return status;
 }

@@ -52,7 +52,6 @@ every_way() {
     is_told "$1" make test
     is_told "$1" make test-sanitized
     is_told "$1" make fuzz
-    is_told "$1" make install
     is_told "$1" make wrong
     is_told "$1" make bench
     is_told "$1" ./check
