@@ -160,6 +160,8 @@ enum status work_debug(const struct command *command, int count, char **words)
         may_draw(&book, look);
         if (begin_debugging(debugger, &book, script, script_path, &start, start_name)) {
             debugger->look = look;
+            debugger->book_path = path[0];
+            debugger->script_path = script_path;
             debugger->at_terminal = isatty(STDIN_FILENO);
             show_beginning(debugger, path[0], script_path, course.state);
             hold_session(debugger, echoes);

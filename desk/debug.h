@@ -23,7 +23,8 @@ struct mark {
 
 struct debugger {
     const struct book *book;
-    struct bytes script; /* of length 0 where there is none */
+    struct bytes script;         /* of length 0 where there is none */
+    const char *book_path, *script_path; /* files that are not written over; NULL for none */
     struct look look;
     bool at_terminal; /* an empty line does the last run again */
     uint64_t most;    /* the most events that one line may ask for */

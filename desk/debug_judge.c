@@ -1,6 +1,9 @@
 /* What the library takes of a state and of events: it is asked by its own calls, on copies. */
 #include "debug_words.h"
+#include "mnemonics.h"
 #include "run.h"
+
+#include <stdio.h>
 
 /* What the library answers to a state before any event happens to it; it is lent a copy. */
 static uint32_t judge_state(const struct book *book, const struct state *state, uint64_t *value)
@@ -31,6 +34,28 @@ bool are_events(const struct debugger *debugger, struct bytes events, const char
     if (refusal != GALHOVEIA_DONE)
         say_refusal(what, refusal, value);
     return refusal == GALHOVEIA_DONE;
+}
+
+/* The library is asked by an LDA of the cell, on a copy that is awake and that nothing interrupts. */
+unsigned reads_as(const struct state *state, unsigned cell)
+{
+    uint8_t program[GALHOVEIA_PROGRAM_BYTES] = {0};
+    const struct book book = {.program = {program, sizeof program}};
+    struct state copy = *state;
+    unsigned address = two(copy.record + GALHOVEIA_RECORD_PC);
+    char text[TEXT_ROOM];
+    uint64_t value;
+    uint16_t word;
+
+    snprintf(text, sizeof text, "LDA %03X", cell);
+    if (!word_of(chip_mnemonics(), text, &word))
+        bad_listing("LDA has no line");
+    program[2 * address] = (uint8_t)(word >> 8);
+    program[2 * address + 1] = (uint8_t)word;
+    copy.memory[INTERRUPTS_ENABLED] = 0;
+    copy.record[GALHOVEIA_RECORD_MODE] = GALHOVEIA_RUNNING;
+    step_once(&book, &copy, GALHOVEIA_EVENT_CYCLE, &value);
+    return copy.record[GALHOVEIA_RECORD_AC];
 }
 
 unsigned bits_kept(const struct debugger *debugger, unsigned cell)

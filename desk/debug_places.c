@@ -112,6 +112,8 @@ void do_save(struct debugger *debugger, const struct typed *typed)
             misused(typed, "not understood:", typed->argument[at]);
     if (path == NULL)
         misused(typed, "something is missing behind", typed->word->name);
+    keep_input(path, debugger->book_path);
+    keep_input(path, debugger->script_path);
     save_state(path, &debugger->now.state, force, NULL, NULL);
 }
 

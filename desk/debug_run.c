@@ -85,8 +85,14 @@ bool step_ahead(struct debugger *debugger, struct moment *moment)
 struct outcome {
     uint64_t done, asked;
     uint32_t reason, stop;
-    bool broken_off;
+    bool broken_off, typed;
 };
+
+void show_script_end(const struct debugger *debugger)
+{
+    if (debugger->script.length > 0 && script_rest(debugger) == 0)
+        printf("; the script is at its end");
+}
 
 /* Says a refusal; before a word that is no instruction what was done counts. */
 static void say_outcome(const struct debugger *debugger, uint32_t refusal, uint64_t value,
@@ -103,8 +109,8 @@ static void say_outcome(const struct debugger *debugger, uint32_t refusal, uint6
         printf("; stopped at $%03lX", (unsigned long)outcome->stop);
     else if (outcome->stop != GALHOVEIA_NO_STOP)
         printf("; no cycle left PC at $%03lX", (unsigned long)outcome->stop);
-    else if (debugger->script.length > 0 && script_rest(debugger) == 0)
-        printf("; the script is at its end");
+    else if (!outcome->typed)
+        show_script_end(debugger);
     printf("\n");
     show_where(debugger);
 }
@@ -113,7 +119,7 @@ static void say_outcome(const struct debugger *debugger, uint32_t refusal, uint6
    next. */
 static void run_ahead(struct debugger *debugger, const struct bytes *typed, uint64_t asked, uint32_t stop)
 {
-    struct outcome outcome = {.asked = asked, .reason = GALHOVEIA_AT_END, .stop = stop};
+    struct outcome outcome = {.asked = asked, .reason = GALHOVEIA_AT_END, .stop = stop, .typed = typed != NULL};
     uint32_t refusal = GALHOVEIA_DONE;
     uint64_t value = 0;
 
@@ -146,24 +152,37 @@ void show_done(uint64_t done)
 
 /* ---- Words ---- */
 
-void do_step(struct debugger *debugger, const struct typed *typed)
+/* So many lines, for every event or for cycles alone, with the events between them passed over. */
+static void show_steps(struct debugger *debugger, const struct typed *typed, bool cycles_alone)
 {
-    uint64_t steps = typed->count > 0 ? number_at(debugger, typed, 0) : 1;
+    const uint64_t lines = typed->count > 0 ? number_at(debugger, typed, 0) : 1;
     struct moment moment;
 
-    if (!debugger->headed && steps > 0)
+    if (!debugger->headed && lines > 0)
         show_moments_head(stdout);
     debugger->headed = true;
-    for (uint64_t step = 0; step < steps; step++) {
+    for (uint64_t line = 0; line < lines;) {
         if (break_asked()) {
-            show_done(step);
-            printf(" of %llu; stopped by ctrl-C\n", (unsigned long long)steps);
+            printf("%llu of %llu shown; stopped by ctrl-C\n", (unsigned long long)line, (unsigned long long)lines);
             return;
         }
         if (!step_ahead(debugger, &moment))
             return;
+        if (cycles_alone && moment.event != GALHOVEIA_EVENT_CYCLE)
+            continue;
         show_moment(stdout, debugger->book, &moment);
+        line++;
     }
+}
+
+void do_step(struct debugger *debugger, const struct typed *typed)
+{
+    show_steps(debugger, typed, false);
+}
+
+void do_next(struct debugger *debugger, const struct typed *typed)
+{
+    show_steps(debugger, typed, true);
 }
 
 void do_run_word(struct debugger *debugger, const struct typed *typed)

@@ -14,7 +14,8 @@ uint64_t events_at(const struct debugger *debugger, const struct typed *typed, s
 /* Lets the next event happen, the script's or a cycle. Answers whether it did; a refusal is said. */
 bool step_ahead(struct debugger *debugger, struct moment *moment);
 
-/* The beginning of a line that tells how many events were done. */
+/* The beginning of a line that tells how many events were done, and its end where the script has no more. */
 void show_done(uint64_t done);
+void show_script_end(const struct debugger *debugger);
 
 #endif

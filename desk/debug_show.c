@@ -29,7 +29,7 @@ static void show_options(const uint8_t *record)
 {
     unsigned options = record[GALHOVEIA_RECORD_OPTIONS];
 
-    printf("watchdog: %s, %u ms left\n", options & 1 ? "on" : "off", two(record + GALHOVEIA_RECORD_WATCHDOG));
+    printf("watchdog: %s, its count %u ms\n", options & 1 ? "on" : "off", two(record + GALHOVEIA_RECORD_WATCHDOG));
     printf("options %u: watchdog %s, BD0 %u, BD1 %u\n", options, options & 1 ? "on" : "off", options >> 1 & 1,
            options >> 2 & 1);
 }
@@ -59,13 +59,24 @@ void do_registers(struct debugger *debugger, const struct typed *typed)
 
 /* ---- Memory ---- */
 
-enum { TIMER0_LOW = 0x004, TIMER0_HIGH = 0x005, PORT_A = 0x008, PORT_D = 0x00B, ROW = 16 };
+enum { TIMER0_LOW = 0x004, TIMER0_HIGH = 0x005, ROW = 16 };
 
-/* What a register reads as is not all in memory: a port has its pins beside it, and Timer0 its counter. */
+static bool is_port(unsigned cell)
+{
+    return cell >= PORT_A && cell <= PORT_D;
+}
+
+/* A port is shown as a program reads it, which is not what memory has of it; any other cell as it stands there. */
+static unsigned value_of(const struct state *state, unsigned cell)
+{
+    return is_port(cell) ? reads_as(state, cell) : state->memory[cell];
+}
+
+/* What stands in memory of a port and at its pins, and of Timer0 its counter. */
 static void show_beside_register(const struct state *state, unsigned cell)
 {
-    if (cell >= PORT_A && cell <= PORT_D)
-        printf("; pins %X", state->record[GALHOVEIA_RECORD_PINS + cell - PORT_A]);
+    if (is_port(cell))
+        printf("; latch %X, pins %X", state->memory[cell], state->record[GALHOVEIA_RECORD_PINS + cell - PORT_A]);
     if (cell == TIMER0_LOW || cell == TIMER0_HIGH)
         printf("; the counter is $%02X", state->record[GALHOVEIA_RECORD_TIMER0_COUNTER]);
 }
@@ -73,7 +84,7 @@ static void show_beside_register(const struct state *state, unsigned cell)
 static void show_register(const struct debugger *debugger, const struct sheet_register *shown)
 {
     const struct state *state = &debugger->now.state;
-    unsigned value = state->memory[shown->cell];
+    unsigned value = value_of(state, shown->cell);
     char text[64] = "";
     size_t length = 0;
 
@@ -94,14 +105,17 @@ static void show_register(const struct debugger *debugger, const struct sheet_re
 static void show_bit(const struct debugger *debugger, struct asked asked)
 {
     const struct sheet_register *of = register_at(asked.cell);
+    const struct state *state = &debugger->now.state;
+    unsigned value = value_of(state, asked.cell);
 
     if (bits_kept(debugger, asked.cell) == 0) {
         show_register(debugger, of);
         return;
     }
-    printf("%s is %u: bit %u of $%03X, which is %X\n", of->bit[asked.bit],
-           debugger->now.state.memory[asked.cell] >> asked.bit & 1, asked.bit, asked.cell,
-           debugger->now.state.memory[asked.cell]);
+    printf("%s is %u: bit %u of $%03X, which is %X", of->bit[asked.bit], value >> asked.bit & 1, asked.bit, asked.cell,
+           value);
+    show_beside_register(state, asked.cell);
+    printf("\n");
 }
 
 static void show_cell(const struct debugger *debugger, unsigned cell)

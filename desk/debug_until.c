@@ -20,13 +20,23 @@ static unsigned bits_of(struct asked asked)
     return asked.bit == BITS ? (1u << BITS) - 1 : 1u << asked.bit;
 }
 
+/* The pins that an event turned over, where the cell is a port's. */
+static unsigned pins_turned(const struct moment *moment, unsigned cell)
+{
+    if (cell < PORT_A || cell > PORT_D)
+        return 0;
+    return moment->before.record[GALHOVEIA_RECORD_PINS + cell - PORT_A]
+           ^ moment->after.record[GALHOVEIA_RECORD_PINS + cell - PORT_A];
+}
+
 static bool is_come(const struct awaited *awaited, const struct moment *moment)
 {
     unsigned cell = awaited->of.cell;
 
     if (awaited->watch.count > 0)
         return changes_watched(&awaited->watch, moment);
-    return ((moment->before.memory[cell] ^ moment->after.memory[cell]) & bits_of(awaited->of)) != 0;
+    return ((moment->before.memory[cell] ^ moment->after.memory[cell]) & bits_of(awaited->of)) != 0
+           || (pins_turned(moment, cell) & bits_of(awaited->of)) != 0;
 }
 
 /* ---- What changed a register ---- */
@@ -64,6 +74,14 @@ static void show_cause(const struct book *book, const struct moment *moment, uns
 {
     char word[EVENT_WORD_ROOM];
 
+    if (pins_turned(moment, cell) != 0) {
+        const uint8_t *before = moment->before.record + GALHOVEIA_RECORD_PINS + cell - PORT_A;
+        const uint8_t *after = moment->after.record + GALHOVEIA_RECORD_PINS + cell - PORT_A;
+
+        printf("  event %llu: pins %c %X -> %X  by  the event %s\n", (unsigned long long)moment->place,
+               'A' + (int)(cell - PORT_A), *before, *after, event_word(moment->event, word));
+        return;
+    }
     show_difference(moment->place, cell, moment->before.memory[cell], moment->after.memory[cell]);
     switch (work_of(moment->event, &moment->before, &moment->after)) {
     case EXECUTES:
@@ -110,7 +128,12 @@ static void run_until(struct debugger *debugger, struct awaited *awaited, uint64
     }
     end_progress();
     show_done(done);
-    printf(" without a change%s\n", done < most && break_asked() ? "; stopped by ctrl-C" : "");
+    printf(" without a change");
+    if (done < most && break_asked())
+        printf("; stopped by ctrl-C");
+    else
+        show_script_end(debugger);
+    printf("\n");
     show_where(debugger);
 }
 

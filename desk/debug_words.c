@@ -1,11 +1,13 @@
 /* The debugger's lines: which word each begins with, and what stands behind it. */
 #include "debug_words.h"
 
+#include "progress.h"
 #include "texts.h"
 
 #include <ctype.h>
 #include <stdio.h>
 #include <string.h>
+#include <strings.h>
 
 #define BLANKS " \t"
 
@@ -17,6 +19,7 @@ static void do_quit(struct debugger *debugger, const struct typed *typed);
 const char debug_words_help[] =
     "The words, each with its short form:\n"
     "  step [N]                 s    the next event, or the next N, each shown by a line\n"
+    "  next [N]                 n    the next cycle, or the next N, with the events before it passed over\n"
     "  run [N]                  r    the next N events, or the script's rest\n"
     "  to ADDRESS [N]           t    until a cycle leaves PC at the address\n"
     "  until CELL|level [N]     u    until the cell, or a digit of the level, changes; and which instruction did it\n"
@@ -49,6 +52,10 @@ static const struct word words[] = {
      "its word; the listing's line at PC before it, in brackets where it was not executed; PC, AC, CY and mode after\n"
      "it; and what it changed.\n"
      NEXT_EVENTS, 0, 1, true, do_step},
+    {"next", "n", "next [N]",
+     "Lets events happen up to the next cycle, or the next N cycles, and shows each cycle by a line, as step does;\n"
+     "the other events before it happen without a line.\n"
+     NEXT_EVENTS, 0, 1, true, do_next},
     {"run", "r", "run [N]",
      "Lets the next N events happen, or without N the rest of the script, and tells where the chip then stands.\n"
      NEXT_EVENTS, 0, 1, true, do_run_word},
@@ -59,10 +66,11 @@ static const struct word words[] = {
      "Lets events happen one by one until the cell changes, or either digit of the level, and tells the event's\n"
      "number, counted from 0, the cell before and after it, and the instruction that did it.\n"
      AT_MOST NEXT_EVENTS CELL_HELP
-     "One bit of a register, by its name (IRQT0), is waited for alone. A register is also changed by an interrupt,\n"
-     "by another event than a cycle, or by the cycle itself, whatever it executes, as when Timer0 overflows or\n"
-     "program data is read; then that is told. Of a data, display or scan cell the change is held against its list\n"
-     "of writers, and one that is not in it is a fault. A cell that nothing can change is told at once.\n", 1, 2,
+     "One bit of a register, by its name (IRQT0), is waited for alone; of a port the latch and the pins are. A\n"
+     "register is also changed by an interrupt, by another event than a cycle, or by the cycle itself, whatever it\n"
+     "executes, as when Timer0 overflows or program data is read; then that is told. Of a data, display or scan cell\n"
+     "the change is held against its list of writers, and one that is not in it is a fault. A cell that nothing can\n"
+     "change is told at once.\n", 1, 2,
      true, do_until},
     {"mark", "m", "mark [NAME]",
      "Keeps this place under a name, or under the lowest free number: the state, the count of events and the place\n"
@@ -79,7 +87,8 @@ static const struct word words[] = {
     {"show", "sh", "show [NAME|CELL|CELL-CELL|all]",
      "Shows memory: without more the registers of the data sheet with their bits; one of them, or one bit, by its\n"
      "name (TM0, LCDON); a cell in hex (020, $020); a range of cells in rows of 16 (020-03F); or all of it. - is a\n"
-     "cell that keeps nothing.\n", 0, 1, false, do_show},
+     "cell that keeps nothing. A port is shown by its name as a program reads it, by pins and latch, with both beside\n"
+     "it; in rows it is the latch.\n", 0, 1, false, do_show},
     {"panel", "p", "panel",
      "Draws what the panel shows, as desk picture --help tells, by the --digits and --columns of desk debug.\n", 0,
      0, false, do_panel},
@@ -171,12 +180,20 @@ unsigned address_at(const struct typed *typed, size_t at)
     return (unsigned)address;
 }
 
+/* What the chip has beside its memory is no cell, though AC is a number in hex. */
+static bool is_processor(const char *text)
+{
+    return strcasecmp(text, "PC") == 0 || strcasecmp(text, "AC") == 0 || strcasecmp(text, "CY") == 0;
+}
+
 struct asked cell_from(const struct typed *typed, const char *text)
 {
     const struct sheet_register *found;
     unsigned bit;
     unsigned long long cell;
 
+    if (is_processor(text))
+        fail("%s is no cell, and registers tells it; the cell $0AC is 0AC", text);
     if (find_name(text, strlen(text), &found, &bit))
         return (struct asked){found->cell, bit};
     if (!hex_from_text(text, GALHOVEIA_MEMORY_BYTES - 1, &cell))
@@ -230,7 +247,7 @@ static void answer(struct debugger *debugger, char *line)
     size_t first = strcspn(line, BLANKS);
     const struct word *word = word_named(line, first);
 
-    if (word == NULL || word->work != do_step)
+    if (word == NULL || (word->work != do_step && word->work != do_next))
         debugger->headed = false;
     debugger->again[0] = '\0';
     if (word == NULL) {
@@ -284,6 +301,7 @@ bool debug_line(struct debugger *debugger, char *line, size_t length)
 {
     struct read_line read = {debugger, line, length};
 
+    start_clock();
     attempt(work_line, &read);
     return !debugger->over;
 }

@@ -50,11 +50,18 @@ bool is_argument(const struct typed *typed, size_t at, const char *text);
 bool is_state(const struct book *book, const struct state *state, const char *what);
 bool are_events(const struct debugger *debugger, struct bytes events, const char *what);
 
+/* What reading a cell gives: of a port the pins and the latch by its control bits. */
+unsigned reads_as(const struct state *state, unsigned cell);
+
+/* The ports' cells, behind each other as their pins are; and the interrupt enable flags. */
+enum { PORT_A = 0x008, PORT_D = 0x00B, INTERRUPTS_ENABLED = 0x000 };
+
 /* The bits that the library lets a cell of memory keep; 0 for a cell that keeps nothing. */
 unsigned bits_kept(const struct debugger *debugger, unsigned cell);
 
 /* What the words do. debug_run.c: */
 void do_step(struct debugger *debugger, const struct typed *typed);
+void do_next(struct debugger *debugger, const struct typed *typed);
 void do_run_word(struct debugger *debugger, const struct typed *typed);
 void do_to(struct debugger *debugger, const struct typed *typed);
 void do_events(struct debugger *debugger, const char *line);

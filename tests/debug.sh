@@ -55,7 +55,7 @@ echo "debug: help and wrong use of the command"
 ends 0 debug --help
 quiet
 says out 'usage: desk debug BOOK [--state FILE | --options N] [--script FILE [--raw-script]]'
-for word in step run to until EVENTS mark back marks registers show panel level list writers script save load help quit; do
+for word in step next run to until EVENTS mark back marks registers show panel level list writers script save load help quit; do
     says out "  $word "
 done
 says out '(EVENTS)*N'
@@ -197,10 +197,10 @@ same both wanted
 echo "debug: help and quit"
 types 'help' "$book"
 quiet
-for word in step run to until EVENTS mark back marks registers show panel level list writers script save load help quit; do
+for word in step next run to until EVENTS mark back marks registers show panel level list writers script save load help quit; do
     says out "  $word "
 done
-lines_are 20
+lines_are 21
 cp out listed
 types 'h' "$book"
 same out listed
@@ -334,6 +334,21 @@ line_is out 8 '       4  cycle      012 7995 LDI 015 3    013  3  0  running  $0
 types 'step' "$book" --state end.state
 line_is out 4 '       0  cycle     (011 E010 JMP 010)     011  8  1  HALT     asleep'
 
+echo "debug: next"
+types 'next 3\nn\nhelp next' "$book" --script "$script"
+quiet
+line_is out 4 '       0  cycle      000 E012 JMP 012      012  0  0  running'
+line_is out 5 '       5  cycle      012 7995 LDI 015 3    013  3  0  running  $015 0 -> 3'
+line_is out 7 '      15  cycle      014 7A93 LDI 013 5    015  5  0  running  $013 4 -> 5'
+line_is out 8 'next [N]; short: n'
+types 'next 4\nsave next.state' "$book" --script "$script"
+types 'run 16\nsave run.state' "$book" --script "$script"
+same next.state run.state
+types 'next x\nnext 1 1' "$book"
+says err 'x is no number up to'
+says err 'too much behind next'
+unmoved
+
 echo "debug: to"
 for address in 010 027 02B '$02D' 0x045 1FF; do
     "$desk" run "$book" "$script" --stop "$address" --save stop.state --force >stopped
@@ -403,7 +418,7 @@ line_is out 5 '  event 275: $000 0 -> 8  by  01D 7C00 LDI 000 8'
 line_is out 9 '  event 502: $001 0 -> 8  by  the event a=1'
 line_is out 11 '  event 513: $001 8 -> 0  by  01F 7381 ANDIM 001 7'
 line_is out 15 '  event 502: $001 0 -> 8  by  the event a=1'
-line_is out 19 '  event 260: $371 0 -> 14  by  01A 3F71 STA 371'
+line_is out 19 '  event 260: $371 0 -> E  by  01A 3F71 STA 371'
 line_is out 23 '  event 10: $007 0 -> 4  by  013 7A07 LDI 007 4'
 types 'run 503\nu IEX' "$book" --script "$script"
 line_is out 5 '  event 503: $000 8 -> 0  by  an interrupt, taken to $001'
@@ -430,7 +445,7 @@ assembled data ' LDI $01B, 1\n LDI $01A, 0\n ADI $020, 1\n ORG $010\n DW $A5C3\n
 types 'run 2\nu RDT.12 1\nu RDT.13 1' data.book
 line_is out 5 '1 event done without a change'
 types 'run 2\nu RDT.13 1' data.book
-line_is out 5 '  event 2: $01D 0 -> 10  by  the cycle itself, not by  002 40A0 ADI 020 1'
+line_is out 5 '  event 2: $01D 0 -> A  by  the cycle itself, not by  002 40A0 ADI 020 1'
 # What nothing can change is told at once, and nothing is run.
 assembled few ' LDI $020, 1\n LDI $022, 1\nagain: JMP again\n'
 types 'u 021\nuntil 023\nu $348\nu TL0\nu TH0.1\nu 006\nu 200\nu 3FF' few.book
@@ -475,6 +490,33 @@ says err 'FAULT: this must never be; please keep book, state and script, and rep
 says out 'level 0  (digits 0,2; ground code 2)'
 says out '  event 573: $021 2 -> 1  by  02B 3C21 STA 021'
 desk=$kept
+
+# Of a port the latch and the pins are waited for, and it is shown as a program reads it.
+types 'until PORTC\nuntil PA.0' "$book" --script "$script"
+quiet
+says out '  event 501: pins C 0 -> 1  by  the event c=1'
+says out '  event 502: pins A 0 -> 1  by  the event a=1'
+types 'until PA.1 600' "$book" --script "$script"
+says out '600 events done without a change'
+assembled ports ' LDI $016, 1\n LDI $008, 1\n LDI $008, 3\n'
+types 'a=2\nshow PORTA\nrun 1\nshow PA.0\nuntil PA.0 9\nshow PORTA\nuntil PORTA 9\nshow PORTA' ports.book
+quiet
+says out '$008 PORTA 2  PA.3 0  PA.2 0  PA.1 1  PA.0 0             port A; latch 0, pins 2'
+says out 'PA.0 is 0: bit 0 of $008, which is 2; latch 0, pins 2'
+says out '  event 2: $008 0 -> 1  by  001 7888 LDI 008 1'
+says out '$008 PORTA 3  PA.3 0  PA.2 0  PA.1 1  PA.0 1             port A; latch 1, pins 2'
+says out '  event 3: $008 1 -> 3  by  002 7988 LDI 008 3'
+says out '$008 PORTA 3  PA.3 0  PA.2 0  PA.1 1  PA.0 1             port A; latch 3, pins 2'
+# What is no cell.
+for name in PC AC cy; do
+    types "show $name\nuntil $name" "$book"
+    says err "$name is no cell, and registers tells it"
+    unmoved
+done
+printf 'reset reset' >resets.script
+types 'until 022\nb=2' "$book" --script resets.script
+says out '2 events done without a change; the script is at its end'
+line_is out -2 '1 event done'
 
 echo "debug: events that are typed"
 # events_are TEXT: typed, they are what desk run makes of the same text.
@@ -647,7 +689,7 @@ Timer0's low nibble is frozen as 9 until $004 is read
 stack, newest first, PC/CY: $ABC/1 $102/0 $000/0 $000/0 $000/0 $000/0 $000/0 $FFF/0
 Timer0: prescaler 258, counter $5A, load $A5
 base timer: prescaler 0, counter $00
-watchdog: on, 7 ms left
+watchdog: on, its count 7 ms
 options 5: watchdog on, BD0 0, BD1 1
 pins: A 1, B 2, C 3, D 4
 a read of program data is under way, at $456
@@ -656,7 +698,7 @@ same got wanted
 types 'reg' "$book"
 quiet
 says out 'Timer0: prescaler 0, counter $00, load $00, no nibble frozen'
-says out 'watchdog: off, 4096 ms left'
+says out 'watchdog: off, its count 4096 ms'
 says out 'no read of program data is under way'
 cp out listed
 types 'registers' "$book"
@@ -679,7 +721,7 @@ quiet
 lines_are 40
 line_is out 3 '$000       8  IEX 1  IET0 0  IEBT 0  IEP 0               interrupt enable flags'
 says out '$007       4  LCDON 1  RLCD1 0  RLCD0 0                  LCD divider resistors, LCD on/off'
-says out '$009 PORTB 0  PB.3 0  PB.2 0  PB.1 0  PB.0 0             port B; pins 1'
+says out '$009 PORTB 1  PB.3 0  PB.2 0  PB.1 0  PB.0 1             port B; latch 0, pins 1'
 says out '$00F INX   -  keeps nothing in memory                    pseudo index register'
 says out '$012 DPH   6  DPH.2 1  DPH.1 1  DPH.0 0                  data pointer for INX, high nibble'
 says out '$372       6  OCT1 0  C1.6 1  C1.5 1  C1.4 0             sound channel 1, high nibble, octave'
@@ -691,8 +733,8 @@ line_is out 3 '$004 TL0   -  keeps nothing in memory                    Timer0 l
 line_is out 4 '$005 TH0   -  keeps nothing in memory                    Timer0 load/counter register, high nibble; the counter is $5A'
 types 'show BD1\nshow PORTA\nshow PORTD' "$book" --state full.state
 line_is out 3 'BD1 is 1: bit 1 of $00C, which is 2'
-says out 'port A; pins 1'
-says out 'port D; pins 4'
+says out 'port A; latch 0, pins 1'
+says out 'port D; latch 0, pins 4'
 # Every register and bit of the data sheet (003, section 3.2) is found by its name, capitals or not: its cell, its bits
 # from bit 3 down, its name.
 while read -r cell three two one zero name; do
@@ -901,6 +943,14 @@ says err 'too much behind level; usage: level'
 if [ "$(wc -l <err)" = 3 ]; then ok; else wrong "$said: $(wc -l <err) lines on stderr"; fi
 
 echo "debug: save and load"
+# The session's own book and script are never written over.
+cp "$book" own.book
+cp resets.script own.script
+types 'save own.book --force\nsave own.script --force' own.book --script own.script
+says err 'own.book is read by this command and is left as it is, --force or not'
+says err 'own.script is read by this command and is left as it is, --force or not'
+same own.book "$book"
+same own.script resets.script
 "$desk" run "$book" "$script" --stop 010 --save ready.state >/dev/null
 types 'to 010\nsave saved.state' "$book" --script "$script"
 quiet
