@@ -6,6 +6,9 @@
 #include <stdio.h>
 #include <string.h>
 
+/* More than any command has. */
+enum { OPTIONS_MOST = 32 };
+
 _Noreturn void wrong_use(const struct command *command, const char *what, const char *word)
 {
     fflush(stdout);
@@ -17,7 +20,8 @@ _Noreturn void wrong_use(const struct command *command, const char *what, const 
 void take_words(const struct command *command, int count, char **words, const struct option *options,
                 const char **others, int wanted)
 {
-    int found = 0;
+    const struct option *given[OPTIONS_MOST];
+    int found = 0, givens = 0;
     bool options_over = false;
 
     for (int at = 0; at < count; at++) {
@@ -37,6 +41,10 @@ void take_words(const struct command *command, int count, char **words, const st
             option++;
         if (option->name == NULL)
             wrong_use(command, "unknown option", words[at]);
+        for (int before = 0; before < givens; before++)
+            if (given[before] == option)
+                wrong_use(command, "given twice:", words[at]);
+        given[givens++] = option;
         if (option->value == NULL) {
             *option->given = true;
             continue;
@@ -58,12 +66,20 @@ uint32_t hex_from(const struct command *command, const char *text)
     return (uint32_t)number;
 }
 
+static _Noreturn void wrong_use_of_number(const struct command *command, uint32_t most, const char *text)
+{
+    char what[64];
+
+    snprintf(what, sizeof what, "a number up to %lu is due here, not", (unsigned long)most);
+    wrong_use(command, what, text);
+}
+
 uint32_t decimal_from(const struct command *command, const char *text, uint32_t most)
 {
     unsigned long long number;
 
     if (!number_from(text, strlen(text), most, &number))
-        wrong_use(command, "not a number that fits here:", text);
+        wrong_use_of_number(command, most, text);
     return (uint32_t)number;
 }
 

@@ -9,6 +9,7 @@
 #include "made.h"
 #include "manual.h"
 #include "patch.h"
+#include "progress.h"
 #include "report.h"
 #include "texts.h"
 #include "trace.h"
@@ -121,7 +122,16 @@ static enum status work_run(const struct command *command, int count, char **wor
         wrong_use(command, "--rate is for the file of", "--wav");
     if (rate != NULL)
         wishes.rate = rate_from(command, rate);
+    if (!wishes.show && (digits != NULL || columns != NULL))
+        wrong_use(command, "for what is shown by --show:", digits != NULL ? "--digits" : "--columns");
+    if (wishes.force && wishes.wave == NULL && wishes.save == NULL)
+        wrong_use(command, "for the files of --save and --wav:", "--force");
     may_write_both(command, wishes.wave, wishes.save, wishes.force, "state and sound go into two files, not both into");
+    for (int at = 0; at < 2; at++) {
+        keep_input(wishes.wave, others[at]);
+        keep_input(wishes.save, others[at]);
+    }
+    keep_input(wishes.wave, course.state);
     run.events = read_script(others[1], raw_script, script_from_text);
     if (start_from(command, &course, "a fresh machine", &run.start) && read_book(others[0], &book)) {
         if (wishes.show)
@@ -207,6 +217,7 @@ static enum status work_listing(const struct command *command, int count, char *
         wrong_use(command, "--force is for the file of", "--out");
     if (out != NULL)
         may_write(out, force);
+    keep_input(out, path[0]);
     if (!read_book(path[0], &book))
         return REFUSED;
     length = write_listing(book.program.at, text);
@@ -232,6 +243,7 @@ static enum status work_program(const struct command *command, int count, char *
 
     take_words(command, count, words, known, others, 2);
     may_write(others[1], force);
+    keep_input(others[1], others[0]);
     text = read_file(others[0], FILE_MOST);
     refusal = galhoveia_listing_read(text.at, text.length, program, sizeof program, &value);
     if (refusal != GALHOVEIA_DONE)
@@ -278,6 +290,8 @@ static enum status work_book_make(const struct command *command, int count, char
 
     take_words(command, count, words, known, others, 4);
     may_write(others[0], force);
+    for (int at = 1; at < 4; at++)
+        keep_input(others[0], others[at]);
     program = read_body(others[1], program_from_text);
     wiring = read_body(others[2], wiring_from_text);
     level = read_body(others[3], level_from_text);
@@ -302,7 +316,8 @@ static enum status work_manual(const struct command *command, int count, char **
 
 static const struct command commands[] = {
     {"demo", "demo [FOLDER]", "runs the example dispatcher and shows what the desk can do",
-     "FOLDER holds dispatcher.book, dispatcher.script and science-block.script; it is examples if not given.\n", NULL,
+     "FOLDER holds dispatcher.book, dispatcher.script and science-block.script. If it is not given, it is examples, or\n"
+     "where that has none, the folder in which make install has put them.\n", NULL,
      work_demo},
     {"fresh", "fresh STATE [--options N] [--force]", "makes the state of a chip just switched on",
      "N is 0 to 7: 1 watchdog on, 2 bonding bit BD0, 4 bonding bit BD1, added up; 0 if not given.\n"
@@ -311,9 +326,10 @@ static const struct command commands[] = {
             "                [--raw-script] [--show [--digits N] [--columns N]] [--watch CELL] [--watch-level]\n"
             "                [--wav FILE [--rate HZ]]",
      "lets a script's events happen to a book's chip",
-     "The chip is fresh, or as in the state FILE. --stop ends the run after a cycle that leaves PC at HEX. --save writes\n"
-     "the state after the run, also after one that stopped before a word that is no instruction (refusal 6). --show\n"
-     "shows picture and level after it, drawn as desk picture --help tells.\n"
+     "The chip is fresh, or as in the state FILE. --stop ends the run after a cycle that leaves PC at HEX, 000 to FFF; any\n"
+     "number above is no address, and ends nothing. --save writes the state after the run, also after one that stopped\n"
+     "before a word that is no instruction (refusal 6). --show shows picture and level after it, drawn as desk picture\n"
+     "--help tells.\n"
      "--watch tells each change of a cell during the run: the event's number, counted from 0, the cell before and after\n"
      "it, and the instruction that did it; then how many of the cell's writers (desk writers) changed it, and which\n"
      "never did. CELL is in hex: a data, display or scan cell. --watch-level watches both digits of the level.\n"
@@ -352,8 +368,9 @@ static const struct command commands[] = {
      "The chip is fresh, or as in the state FILE. Each line read is a word with what belongs to it, or events of a\n"
      "script; # begins a comment. What is wrong with a line is said, changes nothing, and the session goes on; quit or\n"
      "the end of input ends it, with status 0. At a terminal there is a prompt, ctrl-C breaks off a run or the line that\n"
-     "is being typed, and an empty line does the last step, run, to or until again. --echo shows prompt and lines also\n"
-     "where they are piped in, so that a session can be recorded. --digits and --columns are for the word panel.\n",
+     "is being typed, and an empty line right behind a step, next, run, to or until does it again; rlwrap desk debug BOOK gives it\n"
+     "a history. --echo shows prompt and lines also where they are piped in, so that a session can be recorded. --digits\n"
+     "and --columns are for the word panel.\n",
      debug_texts, work_debug},
     {"level", "level BOOK STATE", "tells the level that a state's panel stands at", STATE_HELP, NULL, work_level},
     {"picture", "picture BOOK STATE [--digits N] [--columns N] [--raw]", "draws what a state's panel shows",
@@ -470,6 +487,28 @@ static bool asks_for_help(const char *word)
     return strcmp(word, "--help") == 0 || strcmp(word, "-h") == 0;
 }
 
+static enum status no_such_command(int argc, char **argv)
+{
+    fprintf(stderr, "desk: no such command: %s%s%s\ndesk --help names them\n", argv[1], argc > 2 ? " " : "",
+            argc > 2 ? argv[2] : "");
+    return WRONG_USE;
+}
+
+/* Help by its word: of all, or of the command behind it. */
+static enum status help_on(int argc, char **argv)
+{
+    if (argc == 1) {
+        print_overview(stdout);
+        return DONE;
+    }
+    for (int at = 0; at < COMMANDS; at++)
+        if (words_naming(&commands[at], argc, argv) == argc - 1) {
+            print_help(&commands[at]);
+            return DONE;
+        }
+    return no_such_command(argc, argv);
+}
+
 struct line {
     int argc;
     char **argv;
@@ -485,6 +524,8 @@ static enum status work_line(void *with)
         print_overview(stdout);
         return DONE;
     }
+    if (argc > 1 && strcmp(argv[1], "help") == 0)
+        return help_on(argc - 1, argv + 1);
     if (argc == 2 && strcmp(argv[1], "--version") == 0) {
         printf("desk, galhoveia " GALHOVEIA_VERSION ", commit %s\n", made_of);
         return DONE;
@@ -502,10 +543,8 @@ static enum status work_line(void *with)
         return commands[at].work(&commands[at], argc - 1 - taken, argv + 1 + taken);
     }
     if (argc > 1)
-        fprintf(stderr, "desk: no such command: %s%s%s\ndesk --help names them\n", argv[1], argc > 2 ? " " : "",
-                argc > 2 ? argv[2] : "");
-    else
-        print_overview(stderr);
+        return no_such_command(argc, argv);
+    print_overview(stderr);
     return WRONG_USE;
 }
 
@@ -513,5 +552,6 @@ enum status desk(int argc, char **argv)
 {
     struct line line = {argc, argv};
 
+    start_clock();
     return finish(whole_command(work_line, &line));
 }

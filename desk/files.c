@@ -76,6 +76,12 @@ void may_write(const char *path, bool force)
         fail("%s exists and is left as it is; --force writes over it", path);
 }
 
+void keep_input(const char *path, const char *input)
+{
+    if (path != NULL && input != NULL && is_same_file(path, input))
+        fail("%s is read by this command and is left as it is, --force or not", path);
+}
+
 bool is_same_file(const char *one, const char *other)
 {
     struct stat first, second;
@@ -191,18 +197,30 @@ static bool end_beside(const char *path, bool good, bool force)
     return named;
 }
 
+/* The mode of the file that is to be there: that of the one in its place, else as the user has it of new files. */
+static mode_t mode_of(const char *path)
+{
+    struct stat there;
+    mode_t mask;
+
+    if (stat(path, &there) == 0)
+        return there.st_mode & 07777;
+    mask = umask(0);
+    umask(mask);
+    return 0666 & ~mask;
+}
+
 void write_file(const char *path, const uint8_t *bytes, size_t length, bool force)
 {
-    mode_t mask = umask(0);
+    mode_t mode = mode_of(path);
     int file, why;
     bool good;
 
-    umask(mask);
     may_write(path, force);
     file = begin_beside(path);
     if (file < 0)
         fail("cannot write %s: %s", path, strerror(errno));
-    good = write_all(file, bytes, length) && fchmod(file, 0666 & ~mask) == 0 && fsync(file) == 0;
+    good = write_all(file, bytes, length) && fchmod(file, mode) == 0 && fsync(file) == 0;
     why = errno;
     if (close(file) != 0 && good) {
         good = false;

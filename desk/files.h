@@ -27,6 +27,9 @@ struct bytes read_file(const char *path, size_t most);
    done. */
 void may_write(const char *path, bool force);
 
+/* Fails where a file that is to be written is one that the command reads; either may be NULL for none. */
+void keep_input(const char *path, const char *input);
+
 /* Whether two paths name one file. Of files that are not there yet the spelling tells. */
 bool is_same_file(const char *one, const char *other);
 

@@ -155,8 +155,9 @@ void may_draw(const struct book *book, struct look look)
     size_t elements = book->wiring.length / GALHOVEIA_ELEMENT_BYTES;
 
     if (!look.raw && 7 * (size_t)look.digits > elements)
-        fail("%lu digits need %lu elements, and the wiring has %lu", (unsigned long)look.digits,
-             7 * (unsigned long)look.digits, (unsigned long)elements);
+        fail("%lu digit%s need%s %lu elements, and the wiring has %lu", (unsigned long)look.digits,
+             look.digits == 1 ? "" : "s", look.digits == 1 ? "s" : "", 7 * (unsigned long)look.digits,
+             (unsigned long)elements);
 }
 
 uint32_t ask_picture(const struct book *book, const struct state *state, struct picture *picture, uint64_t *value)
@@ -195,7 +196,7 @@ void show_processor(const struct state *state)
 {
     const uint8_t *record = state->record;
 
-    printf("PC $%03X, AC %u, CY %u, %s", two(record + GALHOVEIA_RECORD_PC), record[GALHOVEIA_RECORD_AC],
+    printf("PC $%03X, AC %X, CY %u, %s", two(record + GALHOVEIA_RECORD_PC), record[GALHOVEIA_RECORD_AC],
            record[GALHOVEIA_RECORD_CY], mode_words(state));
 }
 
@@ -208,7 +209,7 @@ void show_registers(const struct state *state)
            two(record + GALHOVEIA_RECORD_COUNT_1), record[GALHOVEIA_RECORD_OUTPUT_2],
            two(record + GALHOVEIA_RECORD_COUNT_2));
     if (record[GALHOVEIA_RECORD_FROZEN_MARK])
-        printf("Timer0's low nibble is frozen as %u until $004 is read\n", record[GALHOVEIA_RECORD_FROZEN]);
+        printf("Timer0's low nibble is frozen as %X until $004 is read\n", record[GALHOVEIA_RECORD_FROZEN]);
 }
 
 uint32_t list_writers(const struct book *book, uint32_t cell, struct writers *writers, uint64_t *value)

@@ -220,6 +220,9 @@ enum status work_report(const struct command *command, int count, char **words)
     report->look = look_from(command, (struct look){false, 0, COLUMNS_USUAL}, digits, columns);
     report->stop = stop_from(command, &course);
     may_write(out, force);
+    keep_input(out, path[0]);
+    keep_input(out, report->script_path);
+    keep_input(out, course.state);
     report->book_path = path[0];
     report->count = count;
     report->words = words;

@@ -81,9 +81,10 @@ static void show_end(const struct trace *trace)
     if (lead->done < lead->events.length)
         printf("none shown, since event %lu was not come to", (unsigned long)wanted->from);
     else if (shown->done == 0)
-        printf("none shown");
+        printf("none %s", wanted->lines ? "shown" : "dumped");
     else
-        printf("%llu shown, %lu to %llu", (unsigned long long)shown->done, (unsigned long)wanted->from, done - 1);
+        printf("%llu %s, %lu to %llu", (unsigned long long)shown->done, wanted->lines ? "shown" : "dumped",
+               (unsigned long)wanted->from, done - 1);
     if (wanted->counted && shown->done < wanted->count)
         printf(", fewer than the %lu asked for", (unsigned long)wanted->count);
     printf("; ");
@@ -165,6 +166,9 @@ enum status work_trace(const struct command *command, int count, char **words)
         wrong_use(command, wanted.force ? "--force is for the file of" : "lines are shown anyway without", "--vcd");
     if (wanted.vcd != NULL)
         may_write(wanted.vcd, wanted.force);
+    for (int at = 0; at < 2; at++)
+        keep_input(wanted.vcd, others[at]);
+    keep_input(wanted.vcd, course.state);
     trace.whole.events = read_script(others[1], raw_script, script_from_text);
     cut_script(&trace, others[1]);
     if (start_from(command, &course, "a fresh machine", &trace.whole.start) && read_book(others[0], &book)) {

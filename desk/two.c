@@ -149,6 +149,9 @@ enum status work_run_two(const struct command *command, int count, char **words)
         cars.car[car].stop = stop_from(command, &course[car]);
     may_write_both(command, cars.car[0].save, cars.car[1].save, force,
                    "the states of two cars go into two files, not both into");
+    for (int car = 0; car < CARS; car++)
+        for (int at = 0; at < 2; at++)
+            keep_input(cars.car[car].save, others[at]);
     cars.script = read_script(others[1], raw_script, two_cars_from_text);
     if (start_from(command, &course[0], names[0].fresh, &cars.car[0].state)
         && start_from(command, &course[1], names[1].fresh, &cars.car[1].state) && read_book(others[0], &book)) {

@@ -115,7 +115,7 @@ bool find_changes(struct watch *watch, const struct run *run, tell_change *tell,
 void show_difference(uint64_t place, uint32_t cell, unsigned before, unsigned after)
 {
     clear_progress();
-    printf("  event %llu: $%03lX %u -> %u  by  ", (unsigned long long)place, (unsigned long)cell, before, after);
+    printf("  event %llu: $%03lX %X -> %X  by  ", (unsigned long long)place, (unsigned long)cell, before, after);
 }
 
 void show_change(void *with, const struct book *book, const struct cell_change *change)

@@ -74,6 +74,29 @@ says err 'a value is due after --stop'
 ends 2 run "$book" "$script" --stop 12G
 says err 'not a hex number'
 ends 2 run "$book" "$script" --stop 100000000
+ends 2 run "$book" "$script" --stop 1 --stop 2
+says err 'given twice: --stop'
+ends 2 run "$book" "$script" --show --show
+says err 'given twice: --show'
+ends 2 run "$book" "$script" --digits 2
+says err 'for what is shown by --show: --digits'
+ends 2 run "$book" "$script" --columns 2
+says err 'for what is shown by --show: --columns'
+ends 2 run "$book" "$script" --force
+says err 'for the files of --save and --wav: --force'
+ends 0 help
+says out 'desk writers BOOK CELL'
+quiet
+ends 0 help book make
+says out 'usage: desk book make'
+quiet
+ends 0 help run
+says out 'usage: desk run BOOK'
+for words in nonsense 'run more' book; do
+    # shellcheck disable=SC2086
+    ends 2 help $words
+    says err "no such command: $words"
+done
 ends 2 writers "$book" zz
 says err 'not a hex number'
 ends 2 run "$book" "$script" --watch
@@ -231,6 +254,28 @@ is_old() {
 }
 is_old 1061 sound
 is_old 1067 "Timer0's frozen nibble"
+
+echo "desk: what a command reads is not written over"
+cp "$book" own.book
+cp "$script" own.script
+cp own.book as-it-was.book
+for words in 'run own.book own.script --save own.book' 'run own.book own.script --wav own.script' \
+    'run-two own.book own.script --raw-script --save0 own.book' 'listing own.book --out own.book' \
+    'trace own.book own.script --vcd own.script' 'trace own.book own.script --vcd ./own.book' \
+    'report own.book --out own.book' 'report own.book --script own.script --out own.script' \
+    'book make own.script own.script own.book own.book' 'program own.script ./own.script'; do
+    # shellcheck disable=SC2086
+    ends 2 $words --force
+    says err 'is read by this command and is left as it is, --force or not'
+    unbegun
+    same own.book as-it-was.book
+    same own.script "$script"
+done
+# A file that is written over keeps its mode.
+ends 0 fresh private.state
+chmod 600 private.state
+ends 0 fresh private.state --options 1 --force
+case $(ls -l private.state) in -rw-------*) ok ;; *) wrong "a file that is written over has another mode" ;; esac
 
 echo "desk: refused states"
 { printf '\020'; tail -c +2 end.state; } >cell.state
@@ -735,17 +780,17 @@ cat >wanted <<'END'
 4 of 7 events done; stopped at $004
 PC $004, AC 3, CY 0, running
 sound channel 1: output 0, count 0; channel 2: output 0, count 0
-Timer0's low nibble is frozen as 15 until $004 is read
+Timer0's low nibble is frozen as F until $004 is read
 END
 ends 0 run halves.book seven.script --stop 004
 same out wanted
 cat >wanted <<'END'
 7 of 7 events done; stopped at the script's end
-PC $007, AC 15, CY 0, running
+PC $007, AC F, CY 0, running
 sound channel 1: output 0, count 0; channel 2: output 0, count 0
 changes, with events counted from 0:
   event 4: $020 0 -> 3  by  004 3C20 STA 020
-  event 6: $021 0 -> 15  by  006 3C21 STA 021
+  event 6: $021 0 -> F  by  006 3C21 STA 021
 cell $020 (high digit of the level): 1 change; of 1 instruction that can change it 1 did
 cell $021 (low digit of the level): 1 change; of 1 instruction that can change it 1 did
 END
@@ -756,7 +801,7 @@ ends 0 run halves.book seven.script --stop 004 --save half.state
 printf 'cycle*3' >rest.script
 cat >wanted <<'END'
 3 of 3 events done; stopped at the script's end
-PC $007, AC 15, CY 0, running
+PC $007, AC F, CY 0, running
 sound channel 1: output 0, count 0; channel 2: output 0, count 0
 END
 ends 0 run halves.book rest.script --state half.state
@@ -782,8 +827,8 @@ PC $005, AC 2, CY 1, running
 sound channel 1: output 0, count 0; channel 2: output 0, count 0
 changes, with events counted from 0:
   event 0: $020 0 -> 7  by  000 7BA0 LDI 020 7
-  event 1: $020 7 -> 12  by  001 4AA0 ADIM 020 5
-  event 3: $020 12 -> 2  by  003 CB20 DAA 020
+  event 1: $020 7 -> C  by  001 4AA0 ADIM 020 5
+  event 3: $020 C -> 2  by  003 CB20 DAA 020
   event 4: $021 0 -> 2  by  004 3C21 STA 021
 cell $020 (high digit of the level): 3 changes; of 3 instructions that can change it 3 did
 cell $021 (low digit of the level): 1 change; of 1 instruction that can change it 1 did
@@ -804,7 +849,7 @@ ends 0 run "$book" empty.script --state frozen.state
 says out "Timer0's low nibble is frozen as 0 until \$004 is read"
 { head -c 1067 end.state; printf '\017\001'; } >frozen.state
 ends 0 run "$book" empty.script --state frozen.state
-says out "Timer0's low nibble is frozen as 15 until \$004 is read"
+says out "Timer0's low nibble is frozen as F until \$004 is read"
 
 echo "desk: two cars"
 block=$examples/science-block.script
@@ -966,7 +1011,7 @@ both 0 "$book" '--state below.state' '--options 3'
 lines 'cycle*7' >car0.script
 lines 'cycle*5' >car1.script
 both 0 halves.book '--stop 004' ''
-says out "Timer0's low nibble is frozen as 15 until \$004 is read"
+says out "Timer0's low nibble is frozen as F until \$004 is read"
 lines 'cycle*7' 'sound*9' >car0.script
 cp car0.script car1.script
 both 0 octave.book '' '--stop 006'
@@ -1128,7 +1173,7 @@ for car in 0 1; do
     says err "desk: a fresh machine for car $car: refused by 12, value 9"
     unbegun
     ends 2 run-two "$book" "$block" --options$car x --save0 never.state
-    says err 'not a number that fits here: x'
+    says err 'a number up to 4294967295 is due here, not x'
     ends 2 run-two "$book" "$block" --options$car 1 --state$car ready.state --save0 never.state
     says err 'options are for a fresh machine, so not with the state ready.state'
     ends 2 run-two "$book" "$block" --state$car nowhere.state --save0 never.state

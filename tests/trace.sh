@@ -41,7 +41,7 @@ done
 for option in --from --count --options; do
     for number in x -1 1x '' 4294967296 1.5; do
         ends 2 trace "$book" "$script" $option "$number"
-        says err "not a number that fits here: $number"
+        says err "a number up to 4294967295 is due here, not $number"
         unbegun
     done
 done
@@ -290,7 +290,7 @@ absent never.vcd
 echo "trace: value change dumps"
 ends 1 trace events.book events.script --vcd events.vcd
 says out 'events.vcd: 17 signals over 27 events, from time 0 to 18, a unit for each cycle'
-says out '27 of 28 events done, 27 shown, 0 to 26; stopped before a word that is no instruction, at $015'
+says out '27 of 28 events done, 27 dumped, 0 to 26; stopped before a word that is no instruction, at $015'
 says err 'event 27: refused by 6, value 21'
 grep -q 'JMP' out && wrong "$said: lines are shown" || ok
 cp events.vcd kept
