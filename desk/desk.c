@@ -404,7 +404,7 @@ static const struct command commands[] = {
      "in the run who did; every refusal; what is proved and where; the cross-reference; the listing; the commit that the\n"
      "desk is made of, and the command line. The chip is fresh, or as in the state FILE; digits and columns are those of\n"
      "desk picture. Equal stops one after the other are told once, and a page has 40 panels and 200 changes at most; how\n"
-     "many more there were is told. The same files give the same page, byte for byte.\n"
+     "many more there were is told. The same command on the same files gives the same page.\n"
      "Where something was refused, of the run, a picture or a level, the page is written all the same and tells of it, and\n"
      "the status is 1. It is not written where the book itself is refused, nor after a fault.\n",
      run_texts, work_report},

@@ -83,8 +83,8 @@ static void put_change(struct report *report, const struct cell_change *change)
 {
     struct page *page = &report->page;
 
-    put_form(page, "<tr><th scope=\"row\" class=\"number\">%llu</th><td><code>$%03lX</code> %s</td><td>%u \u2192 "
-                   "%u</td><td>",
+    put_form(page, "<tr><th scope=\"row\" class=\"number\">%llu</th><td><code>$%03lX</code> %s</td><td>%X \u2192 "
+                   "%X</td><td>",
              (unsigned long long)change->place, (unsigned long)change->watched->cell,
              change->watched == watched_digit(report, HIGH) ? "high digit" : "low digit", change->before,
              change->after);

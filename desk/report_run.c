@@ -3,7 +3,7 @@
 
 #include "svg.h"
 
-enum { TITLE_ROOM = 96, NAME_ROOM = 32 };
+enum { TITLE_ROOM = 96, NAME_ROOM = 32, START_AND_END = 2 };
 
 /* ---- One level ---- */
 
@@ -49,18 +49,31 @@ static void put_readings(struct page *page, const struct level *level)
     put(page, ".</p>\n");
 }
 
+/* Digits that make no level may still be decimal ones, so that the old emulator had a level for them. */
+static void put_decimal_alone(struct page *page, const struct level *level)
+{
+    if (level->digit[HIGH] >= DECIMAL || level->digit[LOW] >= DECIMAL) {
+        put(page, "<p class=\"verdict\">As decimal digits they are none either.</p>\n");
+        return;
+    }
+    put(page, "<p class=\"verdict differs\"><strong>Read as decimal</strong>, they would be filed under level ");
+    put_signed(page, level_by(level, DECIMAL));
+    put(page, ", where there is no level.</p>\n");
+}
+
 static void put_level(struct report *report, const struct stand *stand)
 {
     struct page *page = &report->page;
     const struct level *level = &stand->level;
 
-    put_form(page, "<p class=\"digits\">High digit <b>%u</b> in cell $%03X, low digit <b>%u</b> in cell $%03X, ground "
+    put_form(page, "<p class=\"digits\">High digit <b>%X</b> in cell $%03X, low digit <b>%X</b> in cell $%03X, ground "
                    "code <b>%u</b></p>\n", level->digit[HIGH], level_cell(&report->book, HIGH), level->digit[LOW],
              level_cell(&report->book, LOW), level->ground);
     if (stand->level_answer.refusal != GALHOVEIA_DONE) {
         put(page, "<p class=\"level\"><strong>No level</strong></p>\n<p class=\"refused\">The level: ");
         put_refusal(page, stand->level_answer.refusal, stand->level_answer.value);
         put(page, "</p>\n");
+        put_decimal_alone(page, level);
         return;
     }
     put(page, "<p class=\"level\"><strong>Level ");
@@ -122,8 +135,8 @@ static void put_stand(struct report *report, size_t at)
 static void put_left_out(struct page *page, const struct stops *stops)
 {
     if (stops->left_out > 0)
-        put_form(page, "<p class=\"left-out\" data-left-out=\"%llu\">Not drawn: %llu more stop%s between the one above "
-                       "and the end. A page has %d panels at most.</p>\n", (unsigned long long)stops->left_out,
+        put_form(page, "<p class=\"left-out\" data-left-out=\"%llu\">Not drawn: %llu more stop%s before the "
+                       "end. A page has %d panels at most.</p>\n", (unsigned long long)stops->left_out,
                  (unsigned long long)stops->left_out, plural(stops->left_out), STANDS_MOST);
 }
 
@@ -137,7 +150,7 @@ static void put_row(struct report *report, size_t at)
 
     name_stand(report, stand, where);
     put_form(page, "<tr><th scope=\"row\"><a href=\"#panel-%zu\">%s</a></th><td class=\"number\">%llu</td>"
-                   "<td class=\"number\">%llu</td><td>%u, %u</td>", at, where, (unsigned long long)stand->events,
+                   "<td class=\"number\">%llu</td><td>%X, %X</td>", at, where, (unsigned long long)stand->events,
              (unsigned long long)stand->more + 1, stand->level.digit[HIGH], stand->level.digit[LOW]);
     if (stand->level_answer.refusal != GALHOVEIA_DONE) {
         put(page, "<td colspan=\"3\">no level: ");
@@ -189,12 +202,15 @@ static void put_end(struct report *report)
     if (report->stop < GALHOVEIA_WORDS) {
         put(page, "at the start, after each cycle that left PC at ");
         put_address(report, report->stop);
-        put(page, ", and at the end");
+        put(page, report->stops.all > START_AND_END ? ", and at the end" : ", of which there was none, and at the end");
     } else {
         put(page, "at the start and at the end");
     }
-    put_form(page, ": %llu times in all. At <b>%llu</b> of these the decimal reading is a wrong stop.</p>\n",
+    put_form(page, ": %llu times in all. At <b>%llu</b> of these the decimal reading is a wrong stop",
              (unsigned long long)report->stops.all, (unsigned long long)report->stops.differing);
+    if (report->stops.unread > 0)
+        put_form(page, ", and at <b>%llu</b> there is no level", (unsigned long long)report->stops.unread);
+    put(page, ".</p>\n");
 }
 
 /* A run that never moved. */
@@ -216,7 +232,9 @@ static void put_start(struct report *report)
     struct page *page = &report->page;
 
     if (report->state_path == NULL) {
-        put_form(page, "as it is when just switched on, with options %lu", (unsigned long)report->options);
+        put_form(page, "as it is when just switched on, with options %lu: watchdog %s, bonding bits BD0 %lu and BD1 %lu",
+                 (unsigned long)report->options, report->options & 1 ? "on" : "off",
+                 (unsigned long)report->options >> 1 & 1, (unsigned long)report->options >> 2 & 1);
         return;
     }
     put(page, "in the state of <code>");

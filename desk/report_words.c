@@ -1,5 +1,6 @@
 /* The report's sections that are mostly words: what it comes to at a glance, the book, refusals, what is proved, and
    how the page was made. */
+#include "checksum.h"
 #include "made.h"
 #include "report_parts.h"
 
@@ -37,9 +38,11 @@ static void put_script_glance(struct report *report)
     if (report->stops.count > 0) {
         put_form(page, "<div><dt>Level %s</dt><dd>", has_run(report) ? "at the end" : "at the start");
         put_last_level(report);
-        put_form(page, "</dd></div>\n<div><dt>Readings differ</dt><dd>%llu <small>of %llu looks at "
-                       "it</small></dd></div>\n",
+        put_form(page, "</dd></div>\n<div><dt>Readings differ</dt><dd>%llu <small>of %llu looks at it",
                  (unsigned long long)report->stops.differing, (unsigned long long)report->stops.all);
+        if (report->stops.unread > 0)
+            put_form(page, "; no level at %llu", (unsigned long long)report->stops.unread);
+        put(page, "</small></dd></div>\n");
     }
 }
 
@@ -196,13 +199,41 @@ void put_proved(struct report *report)
 
 /* ---- How the page was made ---- */
 
+/* A file that the page was made from, with what cksum prints of it. */
+static void put_file(struct page *page, const char *what, const char *path)
+{
+    struct bytes file = read_file(path, SCRIPT_FILE_MOST);
+
+    put_form(page, "<tr><th scope=\"row\">%s</th><td><code>", what);
+    put_text(page, path);
+    put_form(page, "</code></td><td class=\"number\">%zu</td><td class=\"number\">%lu</td></tr>\n", file.length,
+             (unsigned long)checksum_of(file));
+    give_back(file.at);
+}
+
+static void put_files(struct report *report)
+{
+    struct page *page = &report->page;
+
+    put(page, "<div class=\"wide\">\n<table class=\"files\">\n<thead><tr><th scope=\"col\">Made from</th>"
+              "<th scope=\"col\">File</th><th scope=\"col\" class=\"number\">Bytes</th>"
+              "<th scope=\"col\" class=\"number\">Checksum, by <code>cksum</code></th></tr></thead>\n<tbody>\n");
+    put_file(page, "Book", report->book_path);
+    if (report->script_path != NULL)
+        put_file(page, "Script", report->script_path);
+    if (report->state_path != NULL)
+        put_file(page, "State", report->state_path);
+    put(page, "</tbody>\n</table>\n</div>\n");
+}
+
 void put_made(struct report *report)
 {
     struct page *page = &report->page;
 
     put(page, "<p>By the desk command of the commit <code class=\"commit\">");
     put_text(page, made_of);
-    put(page, "</code>, with this command line. The same files give the same page, byte for byte.</p>\n<pre><code>desk "
+    put(page, "</code>, with the command line below. The same "
+              "command on the same files gives the same page, byte for byte.</p>\n<pre><code>desk "
               "report");
     for (int at = 0; at < report->count; at++) {
         put(page, " <span>");
@@ -210,4 +241,5 @@ void put_made(struct report *report)
         put(page, "</span>");
     }
     put(page, "</code></pre>\n");
+    put_files(report);
 }

@@ -58,6 +58,7 @@ static void keep(struct stops *stops, const struct stand *stand)
     struct stand *last = stops->count > 0 ? &stops->kept[stops->count - 1] : NULL;
 
     stops->all++;
+    stops->unread += stand->level_answer.refusal != GALHOVEIA_DONE;
     stops->differing += stand->level_answer.refusal == GALHOVEIA_DONE
                         && level_by(&stand->level, OCTAL) != level_by(&stand->level, DECIMAL);
     if (stand->place == AT_STOP && stops->left_out == 0 && last->place == AT_STOP && shows_the_same(last, stand)) {

@@ -37,6 +37,7 @@ struct stops {
     size_t count;
     uint64_t all;       /* stands of any place, each stop for itself */
     uint64_t differing; /* of them, those at which the decimal reading is another level */
+    uint64_t unread;    /* and those at which there is no level */
     uint64_t left_out;  /* stops that are in no kept stand */
     struct met met[MET_MOST];
     size_t met_count;

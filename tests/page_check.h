@@ -58,7 +58,7 @@ struct expected {
     unsigned end_pc;
     struct stand stand[STANDS_MOST];
     size_t stands;
-    uint64_t looks, differing, left_out;
+    uint64_t looks, differing, unread, left_out;
     bool listed[DIGITS][SECOND_WORDS];
     uint64_t changed[DIGITS][SECOND_WORDS];
     struct change change[CHANGES_MOST];

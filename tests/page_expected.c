@@ -101,6 +101,7 @@ static void stand_at(struct expected *expected, const struct stand *stand)
     bool stop = strcmp(stand->place, "stop") == 0;
 
     expected->looks++;
+    expected->unread += stand->level_told.number != 0;
     expected->differing += stand->level_told.number == 0 && stand->digit[0] > 0;
     refuse(expected, picture_name, stand->picture_told, stand->events, true);
     refuse(expected, level_name, stand->level_told, stand->events, true);

@@ -159,7 +159,7 @@ static void check_change(struct node *row, const struct expected *expected, cons
     check_text(event, "a change's event", "%" PRIu64, change->event);
     check_text(cell, "a change's cell", "$%03X %s digit", expected->cell[change->digit],
                change->digit == 0 ? "high" : "low");
-    check_text(values, "a change", "%u \u2192 %u", change->before, change->after);
+    check_text(values, "a change", "%X \u2192 %X", change->before, change->after);
     check_link(find(row, "a", NULL), "who made a change", change->address, expected->line[change->address]);
 }
 

@@ -157,7 +157,7 @@ static void check_level(struct node *section, const struct expected *expected, c
     const unsigned long far = (unsigned long)labs(octal);
     struct node *verdict = find(section, "p", "verdict"), *level = find(section, "p", "level");
 
-    check_text(find(section, "p", "digits"), "the digits", "High digit %u in cell $%03X, low digit %u in cell $%03X, "
+    check_text(find(section, "p", "digits"), "the digits", "High digit %X in cell $%03X, low digit %X in cell $%03X, "
                "ground code %u", stand->digit[0], expected->cell[0], stand->digit[1], expected->cell[1],
                expected->ground);
     if (stand->level_told.number != 0) {
@@ -168,7 +168,13 @@ static void check_level(struct node *section, const struct expected *expected, c
                  stand->level_told.value);
         check_text(level, "a refused level", "No level");
         check(words != NULL && strncmp(text_of(words), wanted, strlen(wanted)) == 0, "no words for a refused level");
-        check(verdict == NULL && find(section, "table", "readings") == NULL, "readings of a refused level");
+        check(find(section, "table", "readings") == NULL, "readings of a refused level");
+        if (stand->digit[0] > 9 || stand->digit[1] > 9)
+            check_text(verdict, "no decimal digits", "As decimal digits they are none either.");
+        else
+            check_text(verdict, "the decimal reading alone", "Read as decimal, they would be filed under level %s, where "
+                       "there is no level.",
+                       shown_level(10l * stand->digit[0] + stand->digit[1] - (long)expected->ground));
         return;
     }
     if (octal == 0)
@@ -231,7 +237,7 @@ static void check_row(struct node *row, const struct asked *asked, const struct 
     const struct stand *stand = &expected->stand[at];
     const long decimal = stand->level + 2l * stand->digit[0];
     char wanted[160];
-    int begun = snprintf(wanted, sizeof wanted, "%s%" PRIu64 "%" PRIu64 "%u, %u", where(expected, asked, stand),
+    int begun = snprintf(wanted, sizeof wanted, "%s%" PRIu64 "%" PRIu64 "%X, %X", where(expected, asked, stand),
                          stand->events, stand->more + 1, stand->digit[0], stand->digit[1]);
 
     if (stand->level_told.number == 0) {
@@ -267,7 +273,7 @@ void check_stands(struct node *root, const struct asked *asked, const struct exp
     check(stands == expected->stands && rows == stands, "%zu panels and %zu rows for %zu stops", stands, rows,
           expected->stands);
     if (expected->left_out > 0)
-        check_text(left_out, "stops that are not drawn", "Not drawn: %" PRIu64 " more stop%s between the one above and "
+        check_text(left_out, "stops that are not drawn", "Not drawn: %" PRIu64 " more stop%s before "
                    "the end. A page has %d panels at most.", expected->left_out, ending(expected->left_out),
                    STANDS_MOST);
     else

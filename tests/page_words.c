@@ -41,8 +41,12 @@ static void check_glance(struct node *root, const struct asked *asked, const str
     }
     if (last != NULL)
         at += snprintf(wanted + at, sizeof wanted - (size_t)at,
-                       "Level at the %s%s\nReadings differ%" PRIu64 " of %" PRIu64 " looks at it\n",
+                       "Level at the %s%s\nReadings differ%" PRIu64 " of %" PRIu64 " looks at it",
                        expected->has_run ? "end" : "start", level, expected->differing, expected->looks);
+    if (last != NULL && expected->unread > 0)
+        at += snprintf(wanted + at, sizeof wanted - (size_t)at, "; no level at %" PRIu64, expected->unread);
+    if (last != NULL)
+        at += snprintf(wanted + at, sizeof wanted - (size_t)at, "\n");
     if (expected->refusals == 0)
         snprintf(wanted + at, sizeof wanted - (size_t)at, "Refusalsnone\n");
     else
@@ -91,7 +95,8 @@ static void check_start(struct node *section, const struct asked *asked)
                  asked->shown_script, asked->state);
     else
         snprintf(wanted, sizeof wanted, "The script %s, on the book\u2019s chip as it is when just switched on, with "
-                 "options %u.\n", asked->shown_script, asked->options);
+                 "options %u: watchdog %s, bonding bits BD0 %u and BD1 %u.\n", asked->shown_script, asked->options,
+                 asked->options % 2 ? "on" : "off", asked->options / 2 % 2, asked->options / 4 % 2);
     check(says(section, wanted), "where the run begins: %s", wanted);
 }
 
@@ -99,6 +104,7 @@ static void check_end(struct node *root, const struct asked *asked, const struct
 {
     struct node *section = with_id(root, "run");
     char wanted[WORD_ROOM];
+    int begun;
 
     if (!expected->has_run) {
         snprintf(wanted, sizeof wanted, "None of %zu event%s was done.", asked->script_len,
@@ -114,9 +120,15 @@ static void check_end(struct node *root, const struct asked *asked, const struct
     check(says(section, wanted), "how the run ended: %s", wanted);
     snprintf(wanted, sizeof wanted, "with PC at $%03X.", expected->end_pc);
     check(says(section, wanted), "where the run ended: %s", wanted);
-    snprintf(wanted, sizeof wanted, ": %" PRIu64 " times in all. At %" PRIu64 " of these the decimal reading is a "
-                                                                              "wrong stop.",
-             expected->looks, expected->differing);
+    if (asked->stop < SECOND_WORDS)
+        check(says(section, ", of which there was none, and at the end: ") == (expected->looks == 2),
+              "whether a cycle came to the stop");
+    begun = snprintf(wanted, sizeof wanted, ": %" PRIu64 " times in all. At %" PRIu64 " of these the decimal reading is "
+                                            "a wrong stop", expected->looks, expected->differing);
+    if (expected->unread > 0)
+        begun += snprintf(wanted + begun, sizeof wanted - (size_t)begun, ", and at %" PRIu64 " there is no level",
+                          expected->unread);
+    snprintf(wanted + begun, sizeof wanted - (size_t)begun, ".");
     check(says(section, wanted), "how often the readings differ: %s", wanted);
 }
 

@@ -202,7 +202,7 @@ here: ADIM $021, 1
  JMP here'
 printf 'cycle*1001' >thousand.script
 reports 0 busy.book --script thousand.script --stop 001
-page_says 'Not drawn: 163 more stops between the one above and the end. A page has 40 panels at most.'
+page_says 'Not drawn: 163 more stops before the end. A page has 40 panels at most.'
 page_says 'Not shown: '
 # Waiting at the stop: all of them alike.
 makes waiting.book ' LDI $020, 3
@@ -323,6 +323,20 @@ if grep -qE '<code class="commit">([0-9a-f]{40}( with changes that no commit has
 else
     wrong "$said"
 fi
+# Its files are those that cksum tells the same of, from an empty one to a long one.
+: >none.script
+head -c 70000 /dev/zero >long.script
+"$desk" fresh odd.state --options 6 >/dev/null || wrong "a state"
+for from in none.script long.script "$script"; do
+    raw=
+    [ "$from" = "$script" ] || raw=--raw-script
+    # shellcheck disable=SC2086
+    ends 0 report "$book" --script "$from" $raw --state odd.state --out page.html --force
+    for file in "$book" "$from" odd.state; do
+        sums=$(cksum "$file" | awk '{ printf "<td class=\"number\">%s</td><td class=\"number\">%s</td>", $2, $1 }')
+        if grep -qF "<code>$file</code></td>$sums" page.html; then ok; else wrong "$said: the checksum of $file"; fi
+    done
+done
 # What the page points at in the repository is there.
 grep -oE '<code>(crates|docs|desk)/[^<*]*</code>' example.html | sed 's/<[^>]*>//g' | sort -u >paths
 [ "$(wc -l <paths)" -gt 15 ] && ok || wrong "the page points at few files"
