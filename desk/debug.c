@@ -38,32 +38,49 @@ void show_where(const struct debugger *debugger)
 
 /* ---- Lines ---- */
 
-/* A line that is read: of one that is too long only that it is. */
+/* What has come of the input, and the line that is read: of one that is too long only that it is. */
 struct input {
+    bool at_terminal;
+    char come[LINE_MOST];
+    size_t next, end; /* within it */
     char line[LINE_MOST + 2];
     size_t length;
 };
 
 enum heard { LINE, CUT_SHORT, END };
 
-/* Reads on up to the line's end. What ctrl-C cuts short, the terminal has forgotten already. */
+/* Reads on where all that has come is taken. What ctrl-C cuts short, the terminal has forgotten already. */
+static enum heard take_more(struct input *input)
+{
+    ssize_t got;
+
+    if (input->next < input->end)
+        return LINE;
+    if (input->at_terminal && !await_input())
+        return CUT_SHORT;
+    got = read(STDIN_FILENO, input->come, sizeof input->come);
+    if (got < 0)
+        fail("cannot read standard input: %s", strerror(errno));
+    input->next = 0;
+    input->end = (size_t)got;
+    return got > 0 ? LINE : END;
+}
+
 static enum heard read_line(struct input *input)
 {
-    int letter = EOF;
+    enum heard heard;
+    char letter = '\0';
 
     input->length = 0;
-    errno = 0;
-    while (!break_asked() && (letter = getchar()) != EOF && letter != '\n')
-        if (input->length <= LINE_MOST)
-            input->line[input->length++] = (char)letter;
-    input->line[input->length] = '\0';
-    if (break_asked()) {
-        clearerr(stdin);
-        return CUT_SHORT;
+    while (letter != '\n' && (heard = take_more(input)) == LINE) {
+        letter = input->come[input->next++];
+        if (letter != '\n' && input->length <= LINE_MOST)
+            input->line[input->length++] = letter;
     }
-    if (ferror(stdin))
-        fail("cannot read standard input: %s", strerror(errno));
-    return letter == EOF && input->length == 0 ? END : LINE;
+    input->line[input->length] = '\0';
+    if (letter == '\n')
+        return LINE;
+    return heard == END && input->length > 0 ? LINE : heard;
 }
 
 /* The line as a terminal would have shown it. */
@@ -76,36 +93,35 @@ static void echo(const struct input *input)
 }
 
 /* Shows the prompt and reads a line. Whoever looks on has then seen all that was answered before. */
-static enum heard next_line(struct input *input, bool at_terminal, bool echoes)
+static enum heard next_line(struct input *input, bool echoes)
 {
     enum heard heard;
 
-    if (at_terminal || echoes)
+    if (input->at_terminal)
+        hold_ctrl_c(true);
+    forget_break();
+    if (input->at_terminal || echoes)
         printf("%s", prompt);
     fflush(stdout);
-    forget_break();
-    if (at_terminal)
-        let_ctrl_c_cut(true);
     heard = read_line(input);
-    if (at_terminal)
-        let_ctrl_c_cut(false);
-    forget_break();
-    if (heard != LINE && (at_terminal || echoes))
+    if (input->at_terminal)
+        hold_ctrl_c(false);
+    if (heard != LINE && (input->at_terminal || echoes))
         printf("\n");
-    else if (echoes && !(at_terminal && isatty(STDOUT_FILENO)))
+    else if (echoes && !(input->at_terminal && isatty(STDOUT_FILENO)))
         echo(input);
     return heard;
 }
 
 static void hold_session(struct debugger *debugger, bool echoes)
 {
-    struct input input;
+    struct input input = {.at_terminal = debugger->at_terminal};
     enum heard heard;
 
     if (debugger->at_terminal)
         take_ctrl_c();
     do
-        heard = next_line(&input, debugger->at_terminal, echoes);
+        heard = next_line(&input, echoes);
     while (heard == CUT_SHORT || (heard == LINE && debug_line(debugger, input.line, input.length)));
     if (debugger->at_terminal)
         leave_ctrl_c();
@@ -165,7 +181,7 @@ enum status work_debug(const struct command *command, int count, char **words)
             debugger->at_terminal = isatty(STDIN_FILENO);
             show_beginning(debugger, path[0], script_path, course.state);
             hold_session(debugger, echoes);
-            status = DONE;
+            status = faults_said > 0 ? FAULT : DONE;
         }
         give_back(book.file.at);
     }

@@ -171,6 +171,8 @@ static void show_steps(struct debugger *debugger, const struct typed *typed, boo
         if (cycles_alone && moment.event != GALHOVEIA_EVENT_CYCLE)
             continue;
         show_moment(stdout, debugger->book, &moment);
+        if (ferror(stdout))
+            fail("the output cannot be written");
         line++;
     }
 }

@@ -8,6 +8,9 @@
 #include <stdio.h>
 #include <string.h>
 
+/* The cells that a read of program data fills. */
+enum { DATA_READ = 0x01A, DATA_READ_END = 0x01D };
+
 /* What is waited for: a change of watched cells, which have lists of writers; or, where none is watched, of one bit or
    all bits of a register. */
 struct awaited {
@@ -57,21 +60,43 @@ static unsigned without_instruction(const struct book *book, const struct moment
     return state.memory[cell];
 }
 
-static void show_executed(const struct book *book, const struct moment *moment, unsigned cell)
+/* A read of program data that was under way fills these cells, whatever the instruction writes there. */
+static bool is_filled(const struct moment *moment, unsigned cell)
 {
-    unsigned idle = without_instruction(book, moment, cell);
+    return moment->before.record[GALHOVEIA_RECORD_PENDING] && cell >= DATA_READ && cell <= DATA_READ_END;
+}
+
+/* Of the bits that were waited for. */
+static void show_executed(const struct book *book, const struct moment *moment, struct asked of)
+{
+    unsigned bits = bits_of(of), idle = without_instruction(book, moment, of.cell) & bits;
     const char *line = book->lines.at[two(moment->before.record + GALHOVEIA_RECORD_PC)];
 
-    if (idle == moment->after.memory[cell])
+    if (is_filled(moment, of.cell))
+        printf("a read of program data, not by  %s\n", line);
+    else if (idle == (moment->after.memory[of.cell] & bits))
         printf("the cycle itself, not by  %s\n", line);
-    else if (idle == moment->before.memory[cell])
+    else if (idle == (moment->before.memory[of.cell] & bits))
         printf("%s\n", line);
     else
         printf("%s  and by the cycle itself\n", line);
 }
 
-static void show_cause(const struct book *book, const struct moment *moment, unsigned cell)
+/* An interrupt itself changes the enable flags alone. */
+static void show_interrupted(const struct moment *moment, unsigned cell)
 {
+    unsigned to = two(moment->after.record + GALHOVEIA_RECORD_PC);
+
+    if (cell == INTERRUPTS_ENABLED)
+        printf("an interrupt, taken to $%03X\n", to);
+    else
+        printf("%s, in which an interrupt was taken to $%03X\n",
+               is_filled(moment, cell) ? "a read of program data in a cycle" : "the cycle itself", to);
+}
+
+static void show_cause(const struct book *book, const struct moment *moment, struct asked of)
+{
+    const unsigned cell = of.cell;
     char word[EVENT_WORD_ROOM];
 
     if (pins_turned(moment, cell) != 0) {
@@ -85,13 +110,13 @@ static void show_cause(const struct book *book, const struct moment *moment, uns
     show_difference(moment->place, cell, moment->before.memory[cell], moment->after.memory[cell]);
     switch (work_of(moment->event, &moment->before, &moment->after)) {
     case EXECUTES:
-        show_executed(book, moment, cell);
+        show_executed(book, moment, of);
         break;
     case INTERRUPTS:
-        printf("an interrupt, taken to $%03X\n", two(moment->after.record + GALHOVEIA_RECORD_PC));
+        show_interrupted(moment, cell);
         break;
     case SLEEPS:
-        printf("the cycle itself, asleep\n");
+        printf("%s, asleep\n", is_filled(moment, cell) ? "a read of program data" : "the cycle itself");
         break;
     case HAPPENS:
         printf("the event %s\n", event_word(moment->event, word));
@@ -105,7 +130,7 @@ static void show_come(const struct debugger *debugger, struct awaited *awaited, 
 {
     end_progress();
     if (awaited->watch.count == 0)
-        show_cause(debugger->book, moment, awaited->of.cell);
+        show_cause(debugger->book, moment, awaited->of);
     else if (!find_change(&awaited->watch, debugger->book, moment, show_change, NULL))
         ask_report();
     show_where(debugger);

@@ -431,7 +431,7 @@ static const char closing[] =
     "No file is written over unless --force is given.\n"
     "Exit status: 0 done; 1 refused by the library, which is said with its number and value; 2 wrong use,\n"
     "or a file that cannot be read, is in the way, or is not what it should be; 3 a fault of the library,\n"
-    "which a watched run, a run that is heard, a trace, the demo, a report, a patch and whatever takes a\n"
+    "which a watched run, a run that is heard, a trace, the debugger, the demo, a report, a patch and whatever takes a\n"
     "listing's lines or a cross-reference look for.\n";
 
 static void print_overview(FILE *to)

@@ -151,17 +151,22 @@ void leave_no_parts(void)
     for (int at = 0; at < ENDING_SIGNALS; at++)
         if (sigaction(ending_signals[at], NULL, &before) == 0 && before.sa_handler != SIG_IGN)
             sigaction(ending_signals[at], &action, NULL);
+    signal(SIGXFSZ, SIG_IGN); /* a file that may not be so long is told as one that cannot be written */
 }
 
 /* Keeps these signals back while names of files change, so that `unfinished` is true whenever one comes. */
 static void hold_signals(bool hold)
 {
+    static sigset_t before;
     sigset_t set;
 
     sigemptyset(&set);
     for (int at = 0; at < ENDING_SIGNALS; at++)
         sigaddset(&set, ending_signals[at]);
-    sigprocmask(hold ? SIG_BLOCK : SIG_UNBLOCK, &set, NULL);
+    if (hold)
+        sigprocmask(SIG_BLOCK, &set, &before);
+    else
+        sigprocmask(SIG_SETMASK, &before, NULL);
 }
 
 /* Makes the file beside a path, under a name of its own, or answers -1. */

@@ -11,10 +11,10 @@ case $2 in
 esac
 
 # Each file's mode, where it is made, and its place below the prefix. build/plain/desk.x86-64 is there where
-# build/plain/desk only runs it under the kit's emulator.
+# build/plain/desk only runs it under the kit's emulator, and is taken away in any case.
 files() {
     "$1" 755 build/plain/desk bin/desk
-    [ ! -e build/plain/desk.x86-64 ] || "$1" 755 build/plain/desk.x86-64 bin/desk.x86-64
+    { [ "$1" = put ] && [ ! -e build/plain/desk.x86-64 ]; } || "$1" 755 build/plain/desk.x86-64 bin/desk.x86-64
     "$1" 644 desk/galhoveia.h include/galhoveia.h
     "$1" 644 "$archive" lib/libgalhoveia.a
     "$1" 644 build/galhoveia.pc lib/pkgconfig/galhoveia.pc

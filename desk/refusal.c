@@ -81,6 +81,7 @@ void describe_refusal(FILE *to, uint32_t number, uint64_t value)
 void say_refusal(const char *what, uint32_t number, uint64_t value)
 {
     fflush(stdout);
+    clear_progress();
     fprintf(stderr, "desk: %s: ", what);
     describe_refusal(stderr, number, value);
     fprintf(stderr, "\n");
@@ -106,10 +107,13 @@ _Noreturn void fail(const char *format, ...)
     give_up();
 }
 
+unsigned long faults_said;
+
 bool say_fault(const char *format, ...)
 {
     va_list arguments;
 
+    faults_said++;
     va_start(arguments, format);
     say("FAULT: ", format, arguments);
     va_end(arguments);

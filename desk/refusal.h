@@ -18,7 +18,9 @@ void say_refusal(const char *what, uint32_t number, uint64_t value);
 /* Says what is wrong and ends the innermost attempt (attempt.h), or the command with WRONG_USE. */
 _Noreturn void fail(const char *format, ...) __attribute__((format(printf, 1, 2)));
 
-/* Says what only a mistake in the library or in this command can bring about. Answers false: not without fault. */
+/* Says what only a mistake in the library or in this command can bring about. Answers false: not without fault. How many
+   were said is counted. */
+extern unsigned long faults_said;
 bool say_fault(const char *format, ...) __attribute__((format(printf, 1, 2)));
 
 /* Asks for a report, after the faults were said. Answers false too. */

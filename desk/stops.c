@@ -93,7 +93,7 @@ static bool go_from_stop_to_stop(struct stops *stops, const struct run *run, uin
         const size_t rest = (size_t)(run->done - done);
         const struct bytes part = {run->events.at + done, rest < most ? rest : most};
         uint32_t reason = GALHOVEIA_AT_END;
-        uint64_t moved = 0, value;
+        uint64_t moved = 0, value = 0;
         uint32_t refusal = run_part(run->book, now, part, stop, &reason, &moved, &value);
 
         if (refusal != GALHOVEIA_DONE || (moved == 0 && part.length > 0)) {

@@ -6,7 +6,7 @@ forgetful=$(realpath "$2") || exit 2
 root=$(realpath "$examples/..") || exit 2
 
 # types LINES WORDS...: a session of desk debug with the words is told the lines, with \n between them, and ends with
-# status 0, as every session does; its output is kept in out and err for the checks after it.
+# status 0, as every session without a fault does; its output is kept in out and err for the checks after it.
 types() {
     typed=$1
     shift
@@ -429,8 +429,19 @@ assembled timer ' LDI $002, 6\n LDI $004, 14\n LDI $005, 15\n NOP\n NOP\n NOP\n 
 types 'u IRQT0 100' timer.book
 line_is out 3 '  event 5: $001 0 -> 4  by  the cycle itself, not by  005 FFFF NOP'
 assembled both ' LDI $002, 6\n LDI $004, 15\n LDI $005, 15\n EORIM $001, 1\n'
-types 'u IRQT0 100' both.book
+types 'u 001 100' both.book
 line_is out 3 '  event 3: $001 0 -> 5  by  003 6081 EORIM 001 1  and by the cycle itself'
+types 'u IRQT0 100' both.book
+line_is out 3 '  event 3: $001 0 -> 5  by  the cycle itself, not by  003 6081 EORIM 001 1'
+types 'u IRQP 100' both.book
+line_is out 3 '  event 3: $001 0 -> 5  by  003 6081 EORIM 001 1'
+# An interrupt clears the enable flags; what else changes in its cycle, the cycle does.
+assembled taken ' LDI $002, 6\n LDI $013, 1\n LDI $004, 14\n LDI $005, 15\n LDI $000, 8\n'
+printf 'cycle*5 a=1 cycle' >taken.script
+types 'run 6\nu 001' taken.book --script taken.script
+line_is out 5 '  event 6: $001 8 -> C  by  the cycle itself, in which an interrupt was taken to $001'
+types 'run 6\nu IEX' taken.book --script taken.script
+line_is out 5 '  event 6: $000 8 -> 0  by  an interrupt, taken to $001'
 assembled asleep ' LDI $002, 6\n LDI $004, 10\n LDI $005, 15\nagain: HALT\n JMP again\n'
 types 'u IRQT0 100' asleep.book
 line_is out 3 '  event 13: $001 0 -> 4  by  the cycle itself, asleep'
@@ -445,7 +456,11 @@ assembled data ' LDI $01B, 1\n LDI $01A, 0\n ADI $020, 1\n ORG $010\n DW $A5C3\n
 types 'run 2\nu RDT.12 1\nu RDT.13 1' data.book
 line_is out 5 '1 event done without a change'
 types 'run 2\nu RDT.13 1' data.book
-line_is out 5 '  event 2: $01D 0 -> A  by  the cycle itself, not by  002 40A0 ADI 020 1'
+line_is out 5 '  event 2: $01D 0 -> A  by  a read of program data, not by  002 40A0 ADI 020 1'
+# Also where what is read is the word that is executed.
+assembled own ' ORG 3\n LDI $01A, 4\n LDI $030, 5\n'
+types 'u 01B 9' own.book
+line_is out 3 '  event 4: $01B 0 -> B  by  a read of program data, not by  004 7AB0 LDI 030 5'
 # What nothing can change is told at once, and nothing is run.
 assembled few ' LDI $020, 1\n LDI $022, 1\nagain: JMP again\n'
 types 'u 021\nuntil 023\nu $348\nu TL0\nu TH0.1\nu 006\nu 200\nu 3FF' few.book
@@ -480,16 +495,16 @@ done
 says err 'x is no number up to 1073741824; usage: until CELL [N]'
 says err 'too much behind until'
 unmoved
-# A change that the list of writers does not have is a fault; the session goes on.
-kept=$desk
-desk=$forgetful
-types 'until 021\nlevel\nuntil 021' "$book" --script "$script"
+# A change that the list of writers does not have is a fault; the session goes on, and ends with the status of one.
+printf 'until 021\nlevel\nuntil 021\n' | "$forgetful" debug "$book" --script "$script" >out 2>err
+got=$?
+said='a session with a fault'
+if [ "$got" = 3 ]; then ok; else wrong "$said: status $got, not 3"; fi
 says out '  event 25: $021 0 -> 2  by  016 7921 LDI 021 2'
 says err 'FAULT: event 25 changed cell $021 at $016, which its list of writers does not have'
 says err 'FAULT: this must never be; please keep book, state and script, and report it'
 says out 'level 0  (digits 0,2; ground code 2)'
 says out '  event 573: $021 2 -> 1  by  02B 3C21 STA 021'
-desk=$kept
 
 # Of a port the latch and the pins are waited for, and it is shown as a program reads it.
 types 'until PORTC\nuntil PA.0' "$book" --script "$script"

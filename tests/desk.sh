@@ -271,6 +271,14 @@ for words in 'run own.book own.script --save own.book' 'run own.book own.script 
     same own.book as-it-was.book
     same own.script "$script"
 done
+# A file that may not be so long is told as one that cannot be written.
+said='a file above the limit of lengths'
+sh -c 'ulimit -f 8; exec "$1" report "$2" --out limited.html' sh "$desk" "$book" >out 2>err
+got=$?
+if [ "$got" = 2 ]; then ok; else wrong "$said: status $got, not 2"; fi
+says err 'cannot write limited.html: File too large'
+absent limited.html
+no_parts
 # A file that is written over keeps its mode.
 ends 0 fresh private.state
 chmod 600 private.state

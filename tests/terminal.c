@@ -5,6 +5,8 @@
      expect TEXT    waits until this is seen, behind what was expected before
      type TEXT      types it, and a line end
      key C-c        types this key (C-c, C-d, C-z ..)
+     signal NAME    sends the command INT, TERM or HUP
+     sh COMMAND     runs a command of the shell, which must succeed
      wait SECONDS   waits */
 #define _XOPEN_SOURCE 700
 #define _DEFAULT_SOURCE
@@ -41,8 +43,26 @@ static _Noreturn void give_up(const char *why, const char *what)
     fflush(stdout);
     fprintf(stderr, "terminal: %s %s\n", why, what);
     if (process > 0)
-        kill(process, SIGKILL);
+        kill(-process, SIGKILL); /* the whole session */
     exit(NOT_SEEN);
+}
+
+static const struct {
+    const char *name;
+    int number;
+} signals[] = {{"INT", SIGINT}, {"TERM", SIGTERM}, {"HUP", SIGHUP}};
+
+enum { SIGNALS = sizeof signals / sizeof signals[0] };
+
+/* Whoever runs the tests may ignore signals, in the background or by nohup; a person's terminal does not. */
+static void heed_signals(void)
+{
+    sigset_t none;
+
+    for (int at = 0; at < SIGNALS; at++)
+        signal(signals[at].number, SIG_DFL);
+    sigemptyset(&none);
+    sigprocmask(SIG_SETMASK, &none, NULL);
 }
 
 static void start(char **command)
@@ -62,6 +82,7 @@ static void start(char **command)
     if (side < 0 || dup2(side, 0) < 0 || dup2(side, 1) < 0 || dup2(side, 2) < 0)
         _exit(126);
     close(terminal);
+    heed_signals();
     execvp(command[0], command);
     _exit(127);
 }
@@ -74,6 +95,8 @@ static bool look(void)
 
     if (poll(&poller, 1, POLL_MILLISECONDS) == 0)
         return true;
+    if (seen_length == SEEN_MOST) /* only what comes last is kept */
+        seen_length = expected_up_to = 0;
     got = read(terminal, seen + seen_length, SEEN_MOST - seen_length);
     if (got <= 0)
         return false;
@@ -102,6 +125,16 @@ static void type(const char *text, size_t length)
         give_up("this cannot be typed:", text);
 }
 
+static void send_signal(const char *name)
+{
+    for (int at = 0; at < SIGNALS; at++)
+        if (strcmp(signals[at].name, name) == 0) {
+            kill(process, signals[at].number);
+            return;
+        }
+    give_up("which signal is", name);
+}
+
 static void take_line(char *line)
 {
     char *rest = strchr(line, ' ');
@@ -118,6 +151,11 @@ static void take_line(char *line)
     } else if (strcmp(line, "key") == 0 && strncmp(rest, "C-", 2) == 0) {
         rest[2] = (char)(toupper((unsigned char)rest[2]) - '@');
         type(rest + 2, 1);
+    } else if (strcmp(line, "signal") == 0) {
+        send_signal(rest);
+    } else if (strcmp(line, "sh") == 0) {
+        if (system(rest) != 0)
+            give_up("this fails:", rest);
     } else if (strcmp(line, "wait") == 0) {
         for (until = now() + atof(rest); now() < until;)
             if (!look())
@@ -140,10 +178,12 @@ int main(int argc, char **argv)
         line[strcspn(line, "\n")] = '\0';
         take_line(line);
     }
-    for (until = now() + EXPECTED_SECONDS; look();)
+    until = now() + EXPECTED_SECONDS;
+    while (look() || waitpid(process, &status, WNOHANG) == 0)
         if (now() > until)
             give_up("it does not end:", argv[1]);
-    waitpid(process, &status, 0);
+        else
+            usleep(1000);
     fwrite(seen, 1, seen_length, stdout);
     return WIFSIGNALED(status) ? 128 + WTERMSIG(status) : WEXITSTATUS(status);
 }

@@ -112,8 +112,18 @@ type step
 expect ADIM 020 1
 type 
 expect LDA 020
+type step 100000000
+wait 0.5
+key C-c
+expect shown; stopped by ctrl-C
+expect desk> 
 key C-d
 ' "$desk" debug busy.book
+# Whenever it is typed at the prompt, it is heeded.
+at 0 "expect desk> 
+$(for turn in 1 2 3 4 5 6 7 8 9 10 11 12 13 14 15 16 17 18 19 20; do printf 'key C-c\nexpect desk> \n'; done)
+type quit
+" "$desk" debug busy.book
 at 0 'expect desk> 
 type quit
 ' "$desk" debug busy.book
@@ -148,20 +158,24 @@ no_parts
 at 0 '' "$slow" fresh kept.state --options 3 --force
 cmp -s kept.state before && wrong "$said: nothing is written" || ok
 no_parts
-# The same of what ends a command from outside.
-for signal in TERM HUP; do
-    cp before kept.state
-    "$slow" fresh kept.state --options 3 --force >/dev/null 2>&1 &
-    process=$!
-    sleep 0.7
-    said="kill -$signal"
-    if ls kept.state.part-* >/dev/null 2>&1; then ok; else wrong "$said: nothing was under way"; fi
-    kill -$signal $process
-    wait $process 2>/dev/null
-    [ $? -gt 128 ] && ok || wrong "$said: the command did not end by it"
+# The same of what ends a command from outside, while the part is there.
+cp before kept.state
+for signal in 'TERM 143' 'HUP 129'; do
+    at "${signal#* }" "wait 0.7
+sh ls kept.state.part-* >/dev/null
+signal ${signal% *}
+" "$slow" fresh kept.state --options 3 --force
     same kept.state before
     no_parts
 done
+# A file that comes to be there meanwhile is not written over.
+at 2 'wait 0.7
+sh echo theirs >meanwhile.state
+' "$slow" fresh meanwhile.state
+says out 'cannot write meanwhile.state'
+echo theirs >theirs
+same meanwhile.state theirs
+no_parts
 
 echo "$passed passed, $failed failed"
 [ "$failed" = 0 ]
