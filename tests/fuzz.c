@@ -5,6 +5,7 @@
 #define _DEFAULT_SOURCE
 #include "fuzz.h"
 
+#include "../desk/refusal.h"
 #include "../desk/texts.h"
 
 #include <limits.h>
@@ -93,6 +94,8 @@ static void do_unit(struct worker *worker, uint64_t unit)
         kinds[kind].begin();
     for (int at = 0; at < UNIT_INPUTS; at++) {
         kinds[kind].input(&worker->outcome[kind]);
+        if (faults_said > 0)
+            finding("a fault was said");
         worker->inputs++;
     }
     worker->seconds[kind] += now() - began;
@@ -193,7 +196,7 @@ static bool ended_well(struct worker *worker)
 
 /* ---- All of them ---- */
 
-/* Answers whether some inputs of the kind were taken and some refused: else nothing was tried. */
+/* Answers whether some inputs of the kind were taken and some refused, as it must be: else nothing was tried. */
 static bool tell_kind(unsigned kind)
 {
     struct outcome all = {0, 0};
@@ -205,7 +208,7 @@ static bool tell_kind(unsigned kind)
         seconds += workers[at].seconds[kind];
     }
     fprintf(report, "  %-20s %9lu taken, %9lu refused, %6.1f s\n", kinds[kind].name, all.taken, all.refused, seconds);
-    return all.taken > 0 && all.refused > 0;
+    return all.taken > 0 && (all.refused > 0) == !kinds[kind].all_taken;
 }
 
 static int do_units(uint64_t first)

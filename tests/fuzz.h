@@ -30,6 +30,9 @@ struct sample {
 /* The good one or a part of it, changed in a few places, or, now and then, nothing but words or bytes at random. */
 void draw_text(struct input *input, const struct sample *sample);
 
+/* Cuts rows of digits down, since long ones let events happen for minutes. Of texts that are drawn nearly all are. */
+void shorten_numbers(struct input *input);
+
 /* The good one with some bytes changed, lost or added. */
 void draw_bytes(struct input *input, const struct sample *sample);
 
@@ -48,6 +51,7 @@ struct kind_of_input {
     unsigned weight; /* how many units in so many as the weights come to */
     void (*input)(struct outcome *outcome);
     void (*begin)(void); /* before the first input of a unit; NULL for nothing */
+    bool all_taken;      /* none is refused, whatever it is */
 };
 
 extern const struct kind_of_input text_kinds[], file_kinds[], line_kinds[]; /* each ended by one without a name */
@@ -58,9 +62,16 @@ void prepare_files(void);
 void prepare_lines(const char *examples);
 
 /* Of the folder's files no kept.* may be harmed (said of what was done), and none but these and copy.* stays. What
-   --force may write over are copies, which are made again. */
+   --force may write over are copies, which are made again; where nothing was done, they may not be harmed either. */
 void look_at_folder(const char *said);
 void restore_copies(void);
+
+/* A file in the folder. */
+void put_file(const char *name, const uint8_t *bytes, size_t length);
+
+/* Works a command line of the desk, changed so that no word names a file outside of the folder, and none but a copy is
+   written over by force; and judges how it ended. */
+void work_words(struct outcome *outcome, const char *words);
 
 /* Says what must never be, and ends the worker. */
 _Noreturn void finding(const char *format, ...) __attribute__((format(printf, 1, 2)));

@@ -100,13 +100,10 @@ static void change(struct input *input, const char *words)
     }
 }
 
-/* Long rows of digits would let events happen for minutes: nearly all are cut down. */
-static void shorten_numbers(struct input *input)
+void shorten_numbers(struct input *input)
 {
     size_t digits = 0, to = 0;
 
-    if (any(5000) == 0)
-        return;
     for (size_t at = 0; at < input->length; at++) {
         bool digit = input->at[at] >= '0' && input->at[at] <= '9';
 
@@ -115,6 +112,7 @@ static void shorten_numbers(struct input *input)
             input->at[to++] = input->at[at];
     }
     input->length = to;
+    input->at[to] = 0;
 }
 
 /* ---- Inputs ---- */
@@ -162,8 +160,9 @@ void draw_text(struct input *input, const struct sample *sample)
         take_part(input, sample);
     for (uint32_t changes = any(4) ? any(3) : any(30); changes > 0; changes--)
         change(input, sample->words);
-    shorten_numbers(input);
     input->at[input->length] = 0;
+    if (any(5000) > 0)
+        shorten_numbers(input);
 }
 
 void draw_bytes(struct input *input, const struct sample *sample)

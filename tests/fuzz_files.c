@@ -21,13 +21,13 @@ static struct kept {
     char name[NAME_ROOM], copy[NAME_ROOM];
     const char *kind, *words;
     struct bytes good;
-    struct stat as_it_was;
+    struct stat as_it_was, copy_as_it_was;
 } kept[FILES_MOST];
 
 static size_t kept_count;
 static struct input input;
 
-static void put_file(const char *name, const uint8_t *bytes, size_t length)
+void put_file(const char *name, const uint8_t *bytes, size_t length)
 {
     FILE *file = fopen(name, "wb");
 
@@ -44,16 +44,15 @@ static void keep(const char *kind, struct bytes good, const char *words)
     snprintf(file->copy, sizeof file->copy, "copy.%s", kind);
     put_file(file->name, good.at, good.length);
     put_file(file->copy, good.at, good.length);
-    if (lstat(file->name, &file->as_it_was) != 0)
+    if (lstat(file->name, &file->as_it_was) != 0 || lstat(file->copy, &file->copy_as_it_was) != 0)
         finding("the file %s cannot be seen", file->name);
 }
 
-static bool is_untouched(const struct kept *file)
+static bool is_untouched(const char *name, const struct stat *then)
 {
     struct stat now;
-    const struct stat *then = &file->as_it_was;
 
-    return lstat(file->name, &now) == 0 && now.st_ino == then->st_ino && now.st_size == then->st_size
+    return lstat(name, &now) == 0 && now.st_ino == then->st_ino && now.st_size == then->st_size
            && now.st_mode == then->st_mode && now.st_mtim.tv_sec == then->st_mtim.tv_sec
            && now.st_mtim.tv_nsec == then->st_mtim.tv_nsec;
 }
@@ -79,14 +78,25 @@ void look_at_folder(const char *said)
     }
     closedir(folder);
     for (size_t at = 0; at < kept_count; at++)
-        if (!is_untouched(&kept[at]))
+        if (!is_untouched(kept[at].name, &kept[at].as_it_was))
             finding("%s: %s was harmed", said, kept[at].name);
 }
 
 void restore_copies(void)
 {
     for (size_t at = 0; at < kept_count; at++)
-        put_file(kept[at].copy, kept[at].good.at, kept[at].good.length);
+        if (!is_untouched(kept[at].copy, &kept[at].copy_as_it_was)) {
+            put_file(kept[at].copy, kept[at].good.at, kept[at].good.length);
+            if (lstat(kept[at].copy, &kept[at].copy_as_it_was) != 0)
+                finding("the file %s cannot be seen", kept[at].copy);
+        }
+}
+
+static void copies_are_whole(const char *said)
+{
+    for (size_t at = 0; at < kept_count; at++)
+        if (!is_untouched(kept[at].copy, &kept[at].copy_as_it_was))
+            finding("%s is refused, and %s was harmed", said, kept[at].copy);
 }
 
 /* ---- Good files ---- */
@@ -138,12 +148,13 @@ static const char *const lines_of_states[] = {
     "level kept.book drawn.state", "picture kept.book drawn.state", "picture kept.book drawn.state --raw",
     "run kept.book kept.script --state drawn.state --save new.state",
     "run-two kept.book kept.two --state0 drawn.state --state1 kept.state --save1 new.state",
-    "run kept.book kept.script --state drawn.state --watch-level",
+    "run kept.book kept.script --state drawn.state --watch-level", "debug kept.book --state drawn.state",
     "trace kept.book kept.script --state drawn.state --vcd new.vcd",
     "report kept.book --script kept.script --state drawn.state --out new.html",
 };
 
 static const char *const lines_of_texts[] = {
+    "debug kept.book --script drawn.script --raw-script", "debug kept.book --script drawn.script --echo",
     "run kept.book drawn.script --save new.state", "run kept.book drawn.script --raw-script",
     "run-two kept.book drawn.two --save0 new.0 --save1 new.1", "run-two kept.book drawn.two --raw-script",
     "run kept.book drawn.script --wav new.wav", "book make new.book drawn.asm kept.wiring kept.level",
@@ -160,7 +171,7 @@ static const char *const lines_of_words[] = {
     "run copy.book copy.script --state copy.state --save copy.state --force",
     "run kept.book kept.script --watch 020 --wav new.wav --rate 112500",
     "run-two kept.book kept.two --stop0 3 --options1 6 --save0 new.0 --save1 new.1 --digits 1",
-    "level kept.book kept.state", "picture kept.book kept.state --digits 1 --columns 3", "writers kept.book 020",
+    "debug kept.book --script kept.script --digits 1 --columns 3 --options 2", "level kept.book kept.state", "picture kept.book kept.state --digits 1 --columns 3", "writers kept.book 020",
     "writers kept.book --level", "xref kept.book", "xref kept.book --all", "listing kept.book",
     "listing copy.book --out copy.lst --force", "program kept.lst new.bin", "book check kept.book", "manual",
     "book make copy.book copy.asm copy.wiring copy.level --force", "patch kept.book 001 3C20 new.book",
@@ -269,9 +280,18 @@ static enum status work(struct outcome *outcome, struct line *line)
     outcome->taken += status == DONE;
     outcome->refused += status != DONE;
     look_at_folder(said);
-    if (strstr(said, "copy.") != NULL)
-        restore_copies();
+    if (status == WRONG_USE)
+        copies_are_whole(said);
+    restore_copies();
     return status;
+}
+
+void work_words(struct outcome *outcome, const char *words)
+{
+    struct line line;
+
+    cut_words(&line, words);
+    work(outcome, &line);
 }
 
 /* The file that a line names as drawn, from the kept one of its kind. */
@@ -328,9 +348,9 @@ static void input_words(struct outcome *outcome)
 }
 
 const struct kind_of_input file_kinds[] = {
-    {"books", 5, input_book, NULL},
-    {"states", 5, input_state, NULL},
-    {"files of texts", 5, input_text_file, NULL},
-    {"command lines", 6, input_words, NULL},
-    {NULL, 0, NULL, NULL},
+    {"books", 5, input_book, NULL, false},
+    {"states", 5, input_state, NULL, false},
+    {"files of texts", 5, input_text_file, NULL, false},
+    {"command lines", 6, input_words, NULL, false},
+    {NULL, 0, NULL, NULL, false},
 };

@@ -198,11 +198,11 @@ static void input_listing(struct outcome *outcome)
 }
 
 const struct kind_of_input text_kinds[] = {
-    {"scripts", 30, input_script, NULL},
-    {"scripts of two cars", 20, input_two_cars, NULL},
-    {"assembly", 15, input_assembly, NULL},
-    {"wirings", 12, input_wiring, NULL},
-    {"level bodies", 12, input_level, NULL},
-    {"listings", 8, input_listing, NULL},
-    {NULL, 0, NULL, NULL},
+    {"scripts", 30, input_script, NULL, false},
+    {"scripts of two cars", 20, input_two_cars, NULL, false},
+    {"assembly", 15, input_assembly, NULL, false},
+    {"wirings", 12, input_wiring, NULL, false},
+    {"level bodies", 12, input_level, NULL, false},
+    {"listings", 8, input_listing, NULL, false},
+    {NULL, 0, NULL, NULL, false},
 };
