@@ -51,6 +51,18 @@ says err 'no such command: nonsense'
 says err 'desk --help names them'
 ends 2 manual more
 says err 'one word too many: more'
+# The manual page has every line of every help.
+ends 0 manual
+quiet
+sed -e 's/^\\&//' -e 's/\\-/-/g' -e 's/\\e/\\/g' -e 's/\\f.//g' out >manual
+"$desk" --help | sed -n 's/^  desk \(book [a-z]*\|[a-z-]*\).*/\1/p' >commands
+while read -r command; do
+    # shellcheck disable=SC2086
+    "$desk" $command --help | sed '1s/^usage: //' | grep . >lines
+    grep -vxFf manual lines >lost && wrong "the manual page lacks of desk $command: $(head -n 1 lost)" || ok
+done <commands
+"$desk" --help | sed '1,/--version/d' | grep . >lines
+grep -vxFf manual lines >lost && wrong "the manual page lacks: $(head -n 1 lost)" || ok
 ends 0 --version
 says out 'desk, galhoveia '
 says out ', commit '
@@ -757,6 +769,9 @@ says out '29608 of 29608 events done'
 says err 'desk: FAULT: sound clock by sound clock the run comes to another end'
 says err 'report it'
 absent never.wav
+ends 3 report "$book" --script "$script" --out never.html
+says err 'desk: FAULT: single steps and the run come to different states'
+absent never.html
 ends 3 run "$book" "$script" --options 1 --wav never.wav
 says err 'the run, sound clock by sound clock: refused by 4, value 0'
 says err 'desk: FAULT: sound clock by sound clock the run comes to another end'

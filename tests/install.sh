@@ -71,6 +71,8 @@ for file in $installed; do
     says out "$prefix/$file"
 done
 check [ -x "$prefix/bin/desk" ]
+said='the modes of what is installed'
+check [ -z "$(find "$prefix/include" "$prefix/lib" "$prefix/share" -type f ! -perm 644)" ]
 check cmp -s desk/galhoveia.h "$prefix/include/galhoveia.h"
 check cmp -s "$archive" "$prefix/lib/libgalhoveia.a"
 version=$(sed -n 's/^#define GALHOVEIA_VERSION *"\(.*\)".*/\1/p' desk/galhoveia.h)
@@ -143,6 +145,18 @@ said=$page
 sed -n 's/^uint32_t \(galhoveia_[a-z_]*\)(.*/\1/p' "$repository/desk/galhoveia.h" >calls
 check [ "$(wc -l <calls)" -gt 10 ]
 while read -r call; do check grep -qx ".SS $call" "$page"; done <calls
+# Whole sentences of the header stand in the page, line by line.
+sed -e 's/^\\&//' -e 's/\\-/-/g' -e 's/\\e/\\/g' "$page" >plain
+awk '/^\/\*/ { inside = 1 } inside { print } /\*\/$/ { inside = 0 }' "$repository/desk/galhoveia.h" \
+    | sed -e 's/^\/\* //' -e 's/^   //' -e 's/ *\*\/$//' -e '1d' | grep . >sentences
+check [ "$(wc -l <sentences)" -gt 100 ]
+check [ -z "$(grep -vxFf plain sentences)" ]
+# So does what is said of each constant, in one line.
+awk '/^enum \{$/ { inside = 1; next } /^\};/ { inside = 0 } inside { print }' "$repository/desk/galhoveia.h" \
+    | awk '{ sub(/^ */, "") } { text = text " " $0 } /\*\/$/ { print text; text = "" }' \
+    | sed -n 's/.*\/\* \(.*\) \*\/$/\1/p' >said_of
+check [ "$(wc -l <said_of)" -gt 40 ]
+check [ -z "$(grep -vxFf plain said_of)" ]
 sed -n 's/^ *\(#define \)\{0,1\}\(GALHOVEIA_[A-Z0-9_]*\)[ ,=].*/\2/p' "$repository/desk/galhoveia.h" \
     | grep -v '^GALHOVEIA_VERSION$' >constants
 check [ "$(wc -l <constants)" -gt 60 ]

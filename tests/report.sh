@@ -281,6 +281,10 @@ ends 0 report "$nasty.book" --script "$nasty.script" --state ready.state --title
 judged "$nasty.html" "$book" --script below.script --state ready.state --shown-title "$shown" \
     --shown-book "$shown.book" --shown-script "$shown.script"
 grep -qF '<b>&"' "$nasty.html" && wrong "a name is not escaped" || ok
+cp ready.state "$nasty.state"
+ends 0 report "$book" --script below.script --state "$nasty.state" --out page.html --force
+grep -qF '<b>&"' page.html && wrong "a state's name is not escaped" || ok
+page_says '&lt;b&gt;&amp;'
 ends 0 report "$nasty.book" --title '' --out page.html --force
 judged page.html "$book" --shown-book "$shown.book"
 for title in ' ' '</title><script>alert(1)</script>' ']]>' '&lt;' '-->' '<!--' "$(printf '\360\237\233\227 \316\251')" \
@@ -318,11 +322,13 @@ for word in '' "it's" 'a b' '$HOME' '`date`' '*' 'a\b' '"' '!!' '~' '#' "$(print
     made_by page.html "$book" --title "$word" --out page.html --force
 done
 said="the commit in the page"
-if grep -qE '<code class="commit">([0-9a-f]{40}( with changes that no commit has)?|unknown)</code>' example.html; then
-    ok
-else
-    wrong "$said"
+commit=$("$desk" --version | sed 's/.*, commit //')
+if grep -qF "<code class=\"commit\">$commit</code>" example.html; then ok; else wrong "$said is not $commit"; fi
+if command -v git >/dev/null && commit_there=$(git -C "$top" rev-parse HEAD 2>/dev/null); then
+    case $commit in "$commit_there"*) ok ;; *) wrong "$said: $commit, not $commit_there" ;; esac
 fi
+said="the note on writers through the pointer"
+if grep -qF 'Such an instruction names <code>$00F</code>' example.html; then ok; else wrong "$said"; fi
 # Its files are those that cksum tells the same of, from an empty one to a long one.
 : >none.script
 head -c 70000 /dev/zero >long.script
