@@ -63,10 +63,10 @@ CRATES = crates.txt $(wildcard crates/*/src/*.rt)
 SECOND = second/second.c second/two.c second/search.c second/instruction.c second/listing.c second/xref.c
 DESK = $(wildcard desk/*.c)
 COMPARE = $(wildcard tests/compare*.c) tests/support.c tests/lending.c tests/counting.c tests/machines.c tests/forms.c
-TEXT = tests/text.c desk/assembler.c desk/attempt.c desk/files.c desk/listing.c desk/mnemonics.c desk/progress.c \
-    desk/refusal.c desk/texts.c
-PAGE = $(wildcard tests/page*.c) desk/attempt.c desk/files.c desk/progress.c desk/refusal.c desk/texts.c
-BENCH = $(wildcard bench/*.c) desk/attempt.c desk/files.c desk/progress.c desk/refusal.c desk/texts.c
+READERS = desk/attempt.c desk/files.c desk/progress.c desk/refusal.c desk/texts.c
+TEXT = tests/text.c desk/assembler.c desk/listing.c desk/mnemonics.c $(READERS)
+PAGE = $(wildcard tests/page*.c) $(READERS)
+BENCH = $(wildcard bench/*.c) $(READERS)
 STACK = $(patsubst %.c,build/native/objects/%.o,tests/stack.c tests/counting.c tests/machines.c)
 FUZZ = $(wildcard tests/fuzz*.c) tests/counting.c $(filter-out desk/main.c,$(DESK))
 TRIALS = tests/trials.c tests/counting.c tests/machines.c tests/forms.c

@@ -59,7 +59,7 @@ void do_registers(struct debugger *debugger, const struct typed *typed)
 
 /* ---- Memory ---- */
 
-enum { TIMER0_LOW = 0x004, TIMER0_HIGH = 0x005, ROW = 16 };
+enum { ROW = 16 };
 
 static bool is_port(unsigned cell)
 {

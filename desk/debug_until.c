@@ -8,9 +8,6 @@
 #include <stdio.h>
 #include <string.h>
 
-/* The cells that a read of program data fills. */
-enum { DATA_READ = 0x01A, DATA_READ_END = 0x01D };
-
 /* What is waited for: a change of watched cells, which have lists of writers; or, where none is watched, of one bit or
    all bits of a register. */
 struct awaited {
@@ -193,7 +190,7 @@ static bool await_cell(const struct debugger *debugger, struct awaited *awaited)
         return watch_cell(&awaited->watch, book, cell, cell_meaning(book, cell)) && can_come(&awaited->watch);
     if ((bits_kept(debugger, cell) & bits_of(awaited->of)) == 0) {
         printf("cell $%03X keeps nothing in memory, so it never changes%s\n", cell,
-               cell == 0x004 || cell == 0x005 ? "; registers tells Timer0's counter" : "");
+               cell == TIMER0_LOW || cell == TIMER0_HIGH ? "; registers tells Timer0's counter" : "");
         return false;
     }
     return true;

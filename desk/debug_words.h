@@ -53,9 +53,6 @@ bool are_events(const struct debugger *debugger, struct bytes events, const char
 /* What reading a cell gives: of a port the pins and the latch by its control bits. */
 unsigned reads_as(const struct state *state, unsigned cell);
 
-/* The ports' cells, behind each other as their pins are; and the interrupt enable flags. */
-enum { PORT_A = 0x008, PORT_D = 0x00B, INTERRUPTS_ENABLED = 0x000 };
-
 /* The bits that the library lets a cell of memory keep; 0 for a cell that keeps nothing. */
 unsigned bits_kept(const struct debugger *debugger, unsigned cell);
 

@@ -1,11 +1,13 @@
 /* A script's events as a value change dump. */
 #include "dump.h"
 
+#include "names.h"
+
 #include <string.h>
 
 /* ---- The signals ---- */
 
-enum { PORT_A = 0x008, FIRST_MARK = 'A', TIME_ROOM = 24, MOST_BITS = 12, CHANGE_ROOM = MOST_BITS + 4 };
+enum { FIRST_MARK = 'A', TIME_ROOM = 24, MOST_BITS = 12, CHANGE_ROOM = MOST_BITS + 4 };
 
 /* The level's digits stand where the book says. */
 enum { LEVEL_HIGH = 13, LEVEL_LOW = 14 };

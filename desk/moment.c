@@ -1,13 +1,11 @@
 /* One event, seen. */
 #include "moment.h"
 
+#include "names.h"
 #include "progress.h"
 #include "texts.h"
 
 #include <string.h>
-
-/* The interrupt flags. */
-enum { ENABLED = 0x000, REQUESTED = 0x001 };
 
 enum { PORTS = 4 };
 
@@ -17,7 +15,7 @@ enum work work_of(uint8_t event, const struct state *before, const struct state 
     if (event != GALHOVEIA_EVENT_CYCLE)
         return HAPPENS;
     if (before->record[GALHOVEIA_RECORD_MODE] == GALHOVEIA_RUNNING)
-        return before->memory[ENABLED] & before->memory[REQUESTED] ? INTERRUPTS : EXECUTES;
+        return before->memory[INTERRUPTS_ENABLED] & before->memory[INTERRUPTS_REQUESTED] ? INTERRUPTS : EXECUTES;
     return after->record[GALHOVEIA_RECORD_MODE] == GALHOVEIA_RUNNING ? INTERRUPTS : SLEEPS;
 }
 

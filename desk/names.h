@@ -7,6 +7,13 @@
 
 enum { BITS = 4, REGISTERS = 40 };
 
+/* The cells that the desk itself looks at. Ports stand behind each other as their pins do, and so do the cells that a
+   read of program data fills. */
+enum {
+    INTERRUPTS_ENABLED = 0x000, INTERRUPTS_REQUESTED = 0x001, TIMER0_LOW = 0x004, TIMER0_HIGH = 0x005, PORT_A = 0x008,
+    PORT_D = 0x00B, DATA_READ = 0x01A, DATA_READ_END = 0x01D
+};
+
 struct sheet_register {
     unsigned cell;
     const char *name;      /* PORTA, TM0; NULL where the sheet has no name for all four bits, or none but theirs */
