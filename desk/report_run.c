@@ -232,8 +232,8 @@ static void put_start(struct report *report)
     struct page *page = &report->page;
 
     if (report->state_path == NULL) {
-        put_form(page, "as it is when just switched on, with options %lu: watchdog %s, bonding bits BD0 %lu and BD1 %lu",
-                 (unsigned long)report->options, report->options & 1 ? "on" : "off",
+        put_form(page, "as it is when just switched on, with options %lu: watchdog %s, bonding bits BD0 %lu and BD1 "
+                       "%lu", (unsigned long)report->options, report->options & 1 ? "on" : "off",
                  (unsigned long)report->options >> 1 & 1, (unsigned long)report->options >> 2 & 1);
         return;
     }

@@ -49,7 +49,8 @@ static bool show_events(struct trace *trace)
     if (wanted->lines)
         show_moments_head(stdout);
     if (wanted->vcd != NULL)
-        begin_dump(&trace->dump, trace->whole.book, &trace->shown.start, count_done(&trace->lead, GALHOVEIA_EVENT_CYCLE));
+        begin_dump(&trace->dump, trace->whole.book, &trace->shown.start,
+                   count_done(&trace->lead, GALHOVEIA_EVENT_CYCLE));
     if (!wanted->lines || !isatty(STDOUT_FILENO)) /* lines on a terminal are seen to move */
         begin_progress("events traced", trace->shown.done);
     faultless = see_events(&trace->shown, wanted->from, see, trace);

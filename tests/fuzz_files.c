@@ -62,6 +62,16 @@ static bool is_of(const char *name, const char *front)
     return strncmp(name, front, strlen(front)) == 0;
 }
 
+static bool stays(const char *name)
+{
+    if (strcmp(name, ".") == 0 || strcmp(name, "..") == 0)
+        return true;
+    for (size_t at = 0; at < kept_count; at++)
+        if (strcmp(name, kept[at].name) == 0 || strcmp(name, kept[at].copy) == 0)
+            return true;
+    return false;
+}
+
 /* No kept file is harmed, no part of a file is left, and what was made goes. */
 void look_at_folder(const char *said)
 {
@@ -73,7 +83,7 @@ void look_at_folder(const char *said)
     while ((entry = readdir(folder)) != NULL) {
         if (strstr(entry->d_name, ".part-") != NULL)
             finding("%s: a part is left: %s", said, entry->d_name);
-        if (!is_of(entry->d_name, "kept.") && !is_of(entry->d_name, "copy.") && entry->d_name[0] != '.')
+        if (!stays(entry->d_name))
             unlink(entry->d_name);
     }
     closedir(folder);
@@ -171,7 +181,8 @@ static const char *const lines_of_words[] = {
     "run copy.book copy.script --state copy.state --save copy.state --force",
     "run kept.book kept.script --watch 020 --wav new.wav --rate 112500",
     "run-two kept.book kept.two --stop0 3 --options1 6 --save0 new.0 --save1 new.1 --digits 1",
-    "debug kept.book --script kept.script --digits 1 --columns 3 --options 2", "level kept.book kept.state", "picture kept.book kept.state --digits 1 --columns 3", "writers kept.book 020",
+    "debug kept.book --script kept.script --digits 1 --columns 3 --options 2", "level kept.book kept.state",
+    "picture kept.book kept.state --digits 1 --columns 3", "writers kept.book 020",
     "writers kept.book --level", "xref kept.book", "xref kept.book --all", "listing kept.book",
     "listing copy.book --out copy.lst --force", "program kept.lst new.bin", "book check kept.book", "manual",
     "book make copy.book copy.asm copy.wiring copy.level --force", "patch kept.book 001 3C20 new.book",
@@ -348,9 +359,9 @@ static void input_words(struct outcome *outcome)
 }
 
 const struct kind_of_input file_kinds[] = {
-    {"books", 5, input_book, NULL, false},
-    {"states", 5, input_state, NULL, false},
-    {"files of texts", 5, input_text_file, NULL, false},
-    {"command lines", 6, input_words, NULL, false},
+    {"books", 4, input_book, NULL, false},
+    {"states", 4, input_state, NULL, false},
+    {"files of texts", 4, input_text_file, NULL, false},
+    {"command lines", 5, input_words, NULL, false},
     {NULL, 0, NULL, NULL, false},
 };

@@ -175,7 +175,7 @@ static void input_session(struct outcome *outcome)
 }
 
 const struct kind_of_input line_kinds[] = {
-    {"debugger lines", 10, input_lines, begin_session, false},
-    {"debugger sessions", 4, input_session, NULL, true},
+    {"debugger lines", 6, input_lines, begin_session, false},
+    {"debugger sessions", 3, input_session, NULL, true},
     {NULL, 0, NULL, NULL, false},
 };
