@@ -2,6 +2,7 @@
 #define _DEFAULT_SOURCE
 #include "demo.h"
 
+#include "desk.h"
 #include "drawing.h"
 #include "run.h"
 #include "texts.h"
@@ -92,14 +93,20 @@ static enum status demo_two_cars(const struct book *book, struct bytes script)
     return run_two_cars(&cars, (struct look){false, DEMO_DIGITS, COLUMNS_BESIDE}, false);
 }
 
-/* Where make install has put the examples, beside the folder of the program itself; the caller gives it back. */
+/* Where make install has put the examples, beside the folder of the program itself, which the system knows where it was
+   called by its name alone. The caller gives it back. */
 static char *installed_examples(void)
 {
-    char program[PATH_MAX];
-    ssize_t length = readlink("/proc/self/exe", program, sizeof program - 1);
+    char program[PATH_MAX] = "";
+    ssize_t length;
     char *slash;
 
-    program[length > 0 ? length : 0] = '\0';
+    if (strchr(desk_called, '/') != NULL) {
+        snprintf(program, sizeof program, "%s", desk_called);
+    } else {
+        length = readlink("/proc/self/exe", program, sizeof program - 1);
+        program[length > 0 ? length : 0] = '\0';
+    }
     slash = strrchr(program, '/');
     if (slash != NULL)
         *slash = '\0';

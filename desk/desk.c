@@ -548,10 +548,13 @@ static enum status work_line(void *with)
     return WRONG_USE;
 }
 
+const char *desk_called = "";
+
 enum status desk(int argc, char **argv)
 {
     struct line line = {argc, argv};
 
+    desk_called = argc > 0 ? argv[0] : "";
     start_clock();
     return finish(whole_command(work_line, &line));
 }

@@ -89,6 +89,8 @@ cp out demo.installed
 # Without a folder, where there is none of that name, it takes the examples that are installed.
 ends 0 "$prefix/bin/desk" demo
 says out 'level 6  (digits 1,0; ground code 2)'
+ends 0 env PATH="$prefix/bin:$PATH" desk demo
+says out 'level 6  (digits 1,0; ground code 2)'
 (cd "$repository" && build/plain/desk demo examples) | sed "s|examples/|$prefix/share/galhoveia/examples/|" >demo.built
 check cmp -s demo.installed demo.built
 
