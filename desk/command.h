@@ -12,6 +12,7 @@ struct command {
     const char *help;         /* what the usage leaves open; NULL for nothing */
     const char *const *texts; /* descriptions of text forms, ended by NULL; NULL for none */
     enum status (*work)(const struct command *command, int count, char **words);
+    void (*list)(FILE *to); /* what the help lists behind its text; NULL for nothing */
 };
 
 struct option {

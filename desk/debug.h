@@ -49,7 +49,7 @@ bool debug_line(struct debugger *debugger, char *line, size_t length);
 void show_where(const struct debugger *debugger);
 
 /* What the words are, a line for each. */
-extern const char debug_words_help[];
+void list_debug_words(FILE *to);
 
 /* The command desk debug. */
 enum status work_debug(const struct command *command, int count, char **words);

@@ -16,29 +16,6 @@
 static void do_help(struct debugger *debugger, const struct typed *typed);
 static void do_quit(struct debugger *debugger, const struct typed *typed);
 
-const char debug_words_help[] =
-    "The words, each with its short form:\n"
-    "  step [N]                 s    the next event, or the next N, each shown by a line\n"
-    "  next [N]                 n    the next cycle, or the next N, with the events before it passed over\n"
-    "  run [N]                  r    the next N events, or the script's rest\n"
-    "  to ADDRESS [N]           t    until a cycle leaves PC at the address\n"
-    "  until CELL|level [N]     u    until the cell, or a digit of the level, changes; and which instruction did it\n"
-    "  EVENTS                        events by a script's words, as a=1 cycle*100 or (cycle sound*4)*20\n"
-    "  mark [NAME]              m    keeps this place: state, count of events, place in the script\n"
-    "  back [NAME]              b    goes back to a mark, the newest if not named; the start where there is none\n"
-    "  marks                    ms   the marks\n"
-    "  registers                reg  processor, stack, timers, pins, options, sound\n"
-    "  show [WHAT]              sh   memory: registers and bits by the data sheet's names, cells, ranges, or all\n"
-    "  panel                    p    what the panel shows\n"
-    "  level                    lv   the level that the panel stands at\n"
-    "  list [ADDRESS] [N]       l    the listing around PC, or N lines of it from an address\n"
-    "  writers CELL|level       w    every instruction that can change the cell, or the digits of the level\n"
-    "  script                   sc   how far the script is, and its next events\n"
-    "  save FILE [--force]           writes the state into a file\n"
-    "  load FILE                     takes the state from a file\n"
-    "  help [WORD]              h    these lines, or more of one word; help EVENTS tells of events\n"
-    "  quit                     q    ends the session, as the end of input does\n";
-
 #define NEXT_EVENTS \
     "The next event is the script's next one; where there is no script, or at its end, it is a cycle.\n"
 
@@ -48,21 +25,26 @@ const char debug_words_help[] =
 
 static const struct word words[] = {
     {"step", "s", "step [N]",
+     "the next event, or the next N, each shown by a line",
      "Lets the next event happen, or the next N, and shows each by a line: the event's number, counted from 0, and\n"
      "its word; the listing's line at PC before it, in brackets where it was not executed; PC, AC, CY and mode after\n"
      "it; and what it changed.\n"
      NEXT_EVENTS, 0, 1, true, do_step},
     {"next", "n", "next [N]",
+     "the next cycle, or the next N, with the events before it passed over",
      "Lets events happen up to the next cycle, or the next N cycles, and shows each cycle by a line, as step does;\n"
      "the other events before it happen without a line.\n"
      NEXT_EVENTS, 0, 1, true, do_next},
     {"run", "r", "run [N]",
+     "the next N events, or the script's rest",
      "Lets the next N events happen, or without N the rest of the script, and tells where the chip then stands.\n"
      NEXT_EVENTS, 0, 1, true, do_run_word},
     {"to", "t", "to ADDRESS [N]",
+     "until a cycle leaves PC at the address",
      "Lets events happen until a cycle leaves PC at ADDRESS (hex, 000 to FFF).\n"
      AT_MOST NEXT_EVENTS, 1, 2, true, do_to},
     {"until", "u", "until CELL [N] | until level [N]",
+     "until the cell, or a digit of the level, changes; and which instruction did it",
      "Lets events happen one by one until the cell changes, or either digit of the level, and tells the event's\n"
      "number, counted from 0, the cell before and after it, and the instruction that did it.\n"
      AT_MOST NEXT_EVENTS CELL_HELP
@@ -73,43 +55,57 @@ static const struct word words[] = {
      "change is told at once.\n", 1, 2,
      true, do_until},
     {"mark", "m", "mark [NAME]",
+     "keeps this place: state, count of events, place in the script",
      "Keeps this place under a name, or under the lowest free number: the state, the count of events and the place\n"
      "in the script. A mark of that name moves here. There are at most 64 marks, and a name has at most 31 letters,\n"
      "digits, . - or _.\n", 0, 1, false, do_mark},
     {"back", "b", "back [NAME]",
+     "goes back to a mark, the newest if not named; the start where there is none",
      "Goes to a mark: the newest if no name is given, and the start of the session where there is no mark. back\n"
      "start goes to the start at any time. Marks stay.\n", 0, 1, false, do_back},
-    {"marks", "ms", "marks", "Shows the marks, the newest last.\n", 0, 0, false, do_marks},
+    {"marks", "ms", "marks",
+     "the marks", "Shows the marks, the newest last.\n", 0, 0, false, do_marks},
     {"registers", "reg", "registers",
+     "processor, stack, timers, pins, options, sound",
      "Shows what the chip has beside its memory: PC, AC, CY, mode, stack, Timer0 with its frozen nibble, base\n"
      "timer, watchdog, pins, options, a read of program data that is under way, and the sound channels.\n", 0, 0,
      false, do_registers},
     {"show", "sh", "show [NAME|CELL|CELL-CELL|all]",
+     "memory: registers and bits by the data sheet's names, cells, ranges, or all",
      "Shows memory: without more the registers of the data sheet with their bits; one of them, or one bit, by its\n"
      "name (TM0, LCDON); a cell in hex (020, $020); a range of cells in rows of 16 (020-03F); or all of it. - is a\n"
      "cell that keeps nothing. A port is shown by its name as a program reads it, by pins and latch, with both beside\n"
      "it; in rows it is the latch.\n", 0, 1, false, do_show},
     {"panel", "p", "panel",
+     "what the panel shows",
      "Draws what the panel shows, as desk picture --help tells, by the --digits and --columns of desk debug.\n", 0,
      0, false, do_panel},
-    {"level", "lv", "level", "Tells the level that the panel stands at.\n", 0, 0, false, do_level},
+    {"level", "lv", "level",
+     "the level that the panel stands at", "Tells the level that the panel stands at.\n", 0, 0, false, do_level},
     {"list", "l", "list [ADDRESS] [N]",
+     "the listing around PC, or N lines of it from an address",
      "Shows the lines of the program's listing around PC, or from ADDRESS (hex, 000 to FFF) on, N of them if given.\n"
      "The line at PC has a > before it.\n", 0, 2, false, do_list},
     {"writers", "w", "writers CELL | writers level",
+     "every instruction that can change the cell, or the digits of the level",
      "Lists every instruction that can change a data, display or scan cell, or those of both digits of the level.\n"
      CELL_HELP, 1, 1, false, do_writers},
-    {"script", "sc", "script", "Tells how many of the script's events were done, and shows the next ones.\n", 0, 0,
+    {"script", "sc", "script",
+     "how far the script is, and its next events", "Tells how many of the script's events were done, and shows the next ones.\n", 0, 0,
      false, do_script},
     {"save", NULL, "save FILE [--force]",
+     "writes the state into a file",
      "Writes the state into a file, as desk run --save does. A file that is there is written over with --force\n"
      "alone. A file's name has no blanks and no #.\n", 1, 2, false, do_save},
     {"load", NULL, "load FILE",
+     "takes the state from a file",
      "Takes the state from a file. The count of events and the place in the script stay. A state that is not well\n"
      "formed is refused, and the old one stays.\n", 1, 1, false, do_load},
-    {"help", "h", "help [WORD]", "Lists the words, or tells of one; help EVENTS tells of events.\n", 0, 1, false,
+    {"help", "h", "help [WORD]",
+     "these lines, or more of one word; help EVENTS tells of events", "Lists the words, or tells of one; help EVENTS tells of events.\n", 0, 1, false,
      do_help},
-    {"quit", "q", "quit", "Ends the session. So does the end of input.\n", 0, 0, false, do_quit},
+    {"quit", "q", "quit",
+     "ends the session, as the end of input does", "Ends the session. So does the end of input.\n", 0, 0, false, do_quit},
 };
 
 enum { WORDS = sizeof words / sizeof words[0] };
@@ -127,6 +123,14 @@ static const struct word *word_named(const char *text, size_t length)
     return NULL;
 }
 
+void list_debug_words(FILE *to)
+{
+    fprintf(to, "The words, each with its short form:\n");
+    for (size_t at = 0; at < WORDS; at++)
+        fprintf(to, "  %-33s %-4s %s\n", words[at].usage, words[at].brief ? words[at].brief : "", words[at].about);
+    fprintf(to, "  %-33s %-4s %s\n", "EVENTS", "", "events by a script's words, as a=1 cycle*100 or (cycle sound*4)*20");
+}
+
 static void do_help(struct debugger *debugger, const struct typed *typed)
 {
     const char *asked = typed->count > 0 ? typed->argument[0] : "";
@@ -140,7 +144,7 @@ static void do_help(struct debugger *debugger, const struct typed *typed)
     else if (typed->count > 0)
         fail("%s is no word of the debugger; help lists them", asked);
     else
-        printf("%s", debug_words_help);
+        list_debug_words(stdout);
 }
 
 static void do_quit(struct debugger *debugger, const struct typed *typed)

@@ -11,7 +11,7 @@ struct typed;
 
 struct word {
     const char *name, *brief; /* brief: NULL for a word that has no short form */
-    const char *usage, *tells;
+    const char *usage, *about, *tells; /* about: a line; tells: all of it */
     size_t least, most; /* as many arguments */
     bool is_run;        /* an empty line does it again */
     void (*work)(struct debugger *debugger, const struct typed *typed);

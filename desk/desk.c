@@ -305,7 +305,7 @@ static enum status work_book_make(const struct command *command, int count, char
 /* ---- Help ---- */
 
 static const char *const run_texts[] = {script_help, NULL};
-static const char *const debug_texts[] = {debug_words_help, script_help, NULL};
+static const char *const debug_texts[] = {script_help, NULL};
 static const char *const run_two_texts[] = {two_cars_help, NULL};
 static const char *const listing_texts[] = {listing_help, NULL};
 static const char *const make_texts[] = {program_help, wiring_help, level_help, NULL};
@@ -318,10 +318,10 @@ static const struct command commands[] = {
     {"demo", "demo [FOLDER]", "runs the example dispatcher and shows what the desk can do",
      "FOLDER holds dispatcher.book, dispatcher.script and science-block.script. If it is not given, it is examples, or\n"
      "where that has none, the folder in which make install has put them.\n", NULL,
-     work_demo},
+     work_demo, NULL},
     {"fresh", "fresh STATE [--options N] [--force]", "makes the state of a chip just switched on",
      "N is 0 to 7: 1 watchdog on, 2 bonding bit BD0, 4 bonding bit BD1, added up; 0 if not given.\n"
-     STATE_HELP, NULL, work_fresh},
+     STATE_HELP, NULL, work_fresh, NULL},
     {"run", "run BOOK SCRIPT [--stop HEX] [--state FILE | --options N] [--save FILE] [--force]\n"
             "                [--raw-script] [--show [--digits N] [--columns N]] [--watch CELL] [--watch-level]\n"
             "                [--wav FILE [--rate HZ]]",
@@ -335,7 +335,7 @@ static const struct command commands[] = {
      "never did. CELL is in hex: a data, display or scan cell. --watch-level watches both digits of the level.\n"
      "--wav writes what the sound channels put out, a sample for each sound clock that was done, channel 1 left and\n"
      "channel 2 right, as a WAV file. HZ is the sound clock: 32768 (if not given) or 112500.\n",
-     run_texts, work_run},
+     run_texts, work_run, NULL},
     {"trace", "trace BOOK SCRIPT [--from N] [--count N] [--state FILE | --options N] [--raw-script]\n"
               "                  [--vcd FILE [--lines] [--force]]",
      "shows a script's events one by one: what each executed, and what it changed",
@@ -349,7 +349,7 @@ static const struct command commands[] = {
      "cells of ports A to D, Timer0's counter, the level's digits and what the sound channels put out. A time unit is a\n"
      "cycle: what an event leaves stands at the number of cycles done so far, those before --from among them. A dump has\n"
      "1,073,741,824 bytes at the most. With --vcd the lines are shown only if --lines is given.\n",
-     run_texts, work_trace},
+     run_texts, work_trace, NULL},
     {"run-two", "run-two BOOK SCRIPT [--stop0 HEX] [--state0 FILE | --options0 N] [--save0 FILE]\n"
                 "                    [--stop1 HEX] [--state1 FILE | --options1 N] [--save1 FILE]\n"
                 "                    [--force] [--raw-script] [--digits N] [--columns N]",
@@ -361,26 +361,26 @@ static const struct command commands[] = {
      "passed, those of a stopped car among them.\n"
      "Both panels are shown side by side, with their levels, drawn as desk picture --help tells, with 8 elements in a row\n"
      "if --columns is not given. Where a level is refused (9), the panels are shown all the same.\n",
-     run_two_texts, work_run_two},
+     run_two_texts, work_run_two, NULL},
     {"debug", "debug BOOK [--state FILE | --options N] [--script FILE [--raw-script]] [--digits N] [--columns N]\n"
               "                  [--echo]",
      "goes through a chip's events step by step, by words that are typed or piped in",
      "The chip is fresh, or as in the state FILE. Each line read is a word with what belongs to it, or events of a\n"
      "script; # begins a comment. What is wrong with a line is said, changes nothing, and the session goes on; quit or\n"
      "the end of input ends it, with status 0. At a terminal there is a prompt, ctrl-C breaks off a run or the line that\n"
-     "is being typed, and an empty line right behind a step, next, run, to or until does it again; rlwrap desk debug BOOK gives it\n"
-     "a history. --echo shows prompt and lines also where they are piped in, so that a session can be recorded. --digits\n"
-     "and --columns are for the word panel.\n",
-     debug_texts, work_debug},
-    {"level", "level BOOK STATE", "tells the level that a state's panel stands at", STATE_HELP, NULL, work_level},
+     "is being typed, and an empty line right behind a step, next, run, to or until does it again; rlwrap desk debug BOOK\n"
+     "gives it a history. --echo shows prompt and lines also where they are piped in, so that a session can be recorded.\n"
+     "--digits and --columns are for the word panel.\n",
+     debug_texts, work_debug, list_debug_words},
+    {"level", "level BOOK STATE", "tells the level that a state's panel stands at", STATE_HELP, NULL, work_level, NULL},
     {"picture", "picture BOOK STATE [--digits N] [--columns N] [--raw]", "draws what a state's panel shows",
      "# is lit, . is dark, in the order of the wiring. With --digits N the first 7N elements are drawn as N\n"
      "seven-segment digits, each wired in the order a to g. --columns N puts N elements in a row (16 if not given).\n"
-     "--raw writes one byte, 0 or 1, for each element instead.\n", NULL, work_picture},
+     "--raw writes one byte, 0 or 1, for each element instead.\n", NULL, work_picture, NULL},
     {"writers", "writers BOOK CELL | writers BOOK --level", "lists every instruction that can change a cell",
      "CELL is in hex: a data, display or scan cell. --level asks for both digits of the level.\n"
      "Each instruction is shown by its line in the program's listing (desk listing). desk xref shows every cell's.\n",
-     NULL, work_writers},
+     NULL, work_writers, NULL},
     {"xref", "xref BOOK [--cell HEX | --all]", "shows the writers of every cell: the program's cross-reference",
      "The library keeps them in tables: under each data, display and scan cell the instructions that name it and can\n"
      "change it, and once for all cells those that can change a cell through $00F.\n"
@@ -388,13 +388,13 @@ static const struct command commands[] = {
      "each by its line in the program's listing (desk listing). Cells without writers of their own are left out, but for\n"
      "the level's digits. --cell asks the tables for one cell and shows what desk writers shows of it. desk patch\n"
      "replaces a word and tells what changes.\n", NULL,
-     work_xref},
+     work_xref, NULL},
     {"patch", "patch BOOK ADDRESS WORD OUT [--force]", "makes a book with another word at one address of the program",
      "ADDRESS is in hex, 000 to FFF. WORD has four hex digits, and need not be an instruction. OUT gets the new book,\n"
      "with BOOK's wiring and level. The address's line in the listing (desk listing) is shown before and now; then each\n"
      "cell that has other writers than before, with - in front of those that are gone and + in front of new ones.\n"
      "Writers through $00F are writers of every cell: where these are others, they are shown once for all cells, and the\n"
-     "cell that the old or the new word names is shown besides.\n", NULL, work_patch},
+     "cell that the old or the new word names is shown besides.\n", NULL, work_patch, NULL},
     {"report", "report BOOK [--script FILE [--stop HEX] [--raw-script] [--state FILE | --options N]] --out FILE.html\n"
                "                   [--force] [--digits N] [--columns N] [--title TEXT]",
      "writes a page on a book, and on a script's run over it, for the inspector",
@@ -407,21 +407,21 @@ static const struct command commands[] = {
      "many more there were is told. The same command on the same files gives the same page.\n"
      "Where something was refused, of the run, a picture or a level, the page is written all the same and tells of it, and\n"
      "the status is 1. It is not written where the book itself is refused, nor after a fault.\n",
-     run_texts, work_report},
+     run_texts, work_report, NULL},
     {"listing", "listing BOOK [--out FILE [--force]]", "writes a book's program as text",
      "The listing goes to standard output, or into FILE. desk program reads it back; desk patch replaces one word.\n",
-     listing_texts, work_listing},
+     listing_texts, work_listing, NULL},
     {"program", "program LISTING OUT [--force]", "reads a program back from its listing",
      "OUT gets the 8,192 bytes of a book's program body; desk book make takes them where OUT's name ends in .bin. Only\n"
      "what desk listing can have written is taken; of any other text the first bad line is told.\n", listing_texts,
-     work_program},
-    {"book check", "book check BOOK", "judges a book and tells what is in it", NULL, NULL, work_book_check},
+     work_program, NULL},
+    {"book check", "book check BOOK", "judges a book and tells what is in it", NULL, NULL, work_book_check, NULL},
     {"book make", "book make BOOK PROGRAM WIRING LEVEL [--force]", "makes a book of its three bodies",
      "Each body is a text as below, or, where the file's name ends in .bin, the body's bytes.\n", make_texts,
-     work_book_make},
+     work_book_make, NULL},
     {"manual", "manual", "writes the manual page desk(1), in roff",
      "All that the help of the commands says, as man shows it: desk manual >desk.1 && man ./desk.1\n", NULL,
-     work_manual},
+     work_manual, NULL},
 };
 
 enum { COMMANDS = sizeof commands / sizeof commands[0] };
@@ -447,6 +447,10 @@ static void print_help(const struct command *command)
     printf("usage: desk %s\n\n%c%s.\n", command->usage, command->about[0] - 'a' + 'A', command->about + 1);
     if (command->help != NULL)
         printf("%s", command->help);
+    if (command->list != NULL) {
+        printf("\n");
+        command->list(stdout);
+    }
     for (int at = 0; command->texts != NULL && command->texts[at] != NULL; at++)
         printf("\n%s", command->texts[at]);
 }

@@ -1,9 +1,11 @@
 /* The desk's manual page, made of what its help says. */
+#define _POSIX_C_SOURCE 200809L
 #include "manual.h"
 
 #include "galhoveia.h"
 
 #include <stdio.h>
+#include <stdlib.h>
 #include <string.h>
 
 /* ---- Roff ---- */
@@ -49,6 +51,22 @@ static void print_text(const char *text)
 
 /* ---- The page ---- */
 
+static void print_list(const struct command *command)
+{
+    char *text = NULL;
+    size_t length;
+    FILE *to = open_memstream(&text, &length);
+
+    if (to == NULL)
+        fail("not enough memory");
+    command->list(to);
+    if (fclose(to) != 0)
+        fail("not enough memory");
+    printf(".PP\n");
+    print_text(text);
+    free(text);
+}
+
 static void print_command(const struct command *command)
 {
     printf(".SS \"desk %s\"\n.nf\n", command->name);
@@ -65,6 +83,8 @@ static void print_command(const struct command *command)
     printf(".\n");
     if (command->help != NULL)
         print_text(command->help);
+    if (command->list != NULL)
+        print_list(command);
     for (int at = 0; command->texts != NULL && command->texts[at] != NULL; at++) {
         printf(".PP\n");
         print_text(command->texts[at]);
