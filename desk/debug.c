@@ -5,6 +5,7 @@
 #include "debug_words.h"
 #include "drawing.h"
 #include "interrupt.h"
+#include "plural.h"
 #include "texts.h"
 
 #include <errno.h>
@@ -30,7 +31,7 @@ void show_where(const struct debugger *debugger)
 {
     const struct place *now = &debugger->now;
 
-    printf("after %llu event%s: ", (unsigned long long)now->done, now->done == 1 ? "" : "s");
+    printf("after %llu event%s: ", (unsigned long long)now->done, plural(now->done));
     show_processor(&now->state);
     printf("; at PC ");
     show_instruction(debugger->book, two(now->state.record + GALHOVEIA_RECORD_PC));
@@ -138,7 +139,7 @@ static void show_beginning(const struct debugger *debugger, const char *book, co
         printf("a chip just switched on, ");
     if (script != NULL)
         printf("the script %s of %zu event%s\n", script, debugger->script.length,
-               debugger->script.length == 1 ? "" : "s");
+               plural(debugger->script.length));
     else
         printf("no script\n");
     show_where(debugger);

@@ -2,6 +2,8 @@
 #define _DEFAULT_SOURCE
 #include "debug_words.h"
 
+#include "plural.h"
+
 #include <stdio.h>
 #include <string.h>
 #include <sys/stat.h>
@@ -40,7 +42,7 @@ static void number_name(struct debugger *debugger, char name[MARK_NAME_MOST + 1]
 
 static void show_place(const struct debugger *debugger, const struct place *place)
 {
-    printf("after %llu event%s", (unsigned long long)place->done, place->done == 1 ? "" : "s");
+    printf("after %llu event%s", (unsigned long long)place->done, plural(place->done));
     if (debugger->script.length > 0)
         printf(", %zu of the script's %zu", place->next, debugger->script.length);
     printf(": ");

@@ -2,6 +2,7 @@
 #include "debug_run.h"
 
 #include "interrupt.h"
+#include "plural.h"
 #include "progress.h"
 #include "texts.h"
 
@@ -147,7 +148,7 @@ static void run_ahead(struct debugger *debugger, const struct bytes *typed, uint
 
 void show_done(uint64_t done)
 {
-    printf("%llu event%s done", (unsigned long long)done, done == 1 ? "" : "s");
+    printf("%llu event%s done", (unsigned long long)done, plural(done));
 }
 
 /* ---- Words ---- */

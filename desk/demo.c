@@ -4,6 +4,7 @@
 
 #include "desk.h"
 #include "drawing.h"
+#include "plural.h"
 #include "run.h"
 #include "texts.h"
 #include "two.h"
@@ -37,7 +38,7 @@ static bool show_strokes(const struct run *run)
     if (strokes == 0)
         printf("heard no stroke\n");
     else
-        printf("heard %zu stroke%s%s\n", strokes, strokes == 1 ? "" : "s",
+        printf("heard %zu stroke%s%s\n", strokes, plural(strokes),
                strokes == 1 ? ": up" : strokes == 2 ? ": down" : "");
     give_back(sound.outputs);
     return faultless;

@@ -2,6 +2,7 @@
 #include "explain.h"
 
 #include "mnemonics.h"
+#include "plural.h"
 #include "texts.h"
 
 #include <ctype.h>
@@ -47,7 +48,7 @@ static void show_quoted(struct part part, size_t most)
     }
     fprintf(stderr, "\"");
     if (shown < part.length)
-        fprintf(stderr, " and %zu byte%s more", part.length - shown, part.length - shown == 1 ? "" : "s");
+        fprintf(stderr, " and %zu byte%s more", part.length - shown, plural(part.length - shown));
 }
 
 static void cut_front(struct part *part, size_t length)

@@ -214,8 +214,3 @@ void put_refusal(struct page *page, uint32_t number, uint64_t value)
     put_text(page, words);
     free(words);
 }
-
-const char *plural(uint64_t count)
-{
-    return count == 1 ? "" : "s";
-}

@@ -37,7 +37,4 @@ void put_signed(struct page *page, long number);
 /* A refusal's number, value and meaning. */
 void put_refusal(struct page *page, uint32_t number, uint64_t value);
 
-/* An ending for a count of things: nothing for one, else s. */
-const char *plural(uint64_t count);
-
 #endif

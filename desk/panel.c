@@ -2,6 +2,7 @@
 #include "panel.h"
 
 #include "drawing.h"
+#include "plural.h"
 
 #include <string.h>
 
@@ -156,7 +157,7 @@ void may_draw(const struct book *book, struct look look)
 
     if (!look.raw && 7 * (size_t)look.digits > elements)
         fail("%lu digit%s need%s %lu elements, and the wiring has %lu", (unsigned long)look.digits,
-             look.digits == 1 ? "" : "s", look.digits == 1 ? "s" : "", 7 * (unsigned long)look.digits,
+             plural(look.digits), look.digits == 1 ? "s" : "", 7 * (unsigned long)look.digits,
              (unsigned long)elements);
 }
 
@@ -264,7 +265,7 @@ void show_head(uint32_t cell, const char *meaning, size_t count)
     if (count == 0)
         printf("no instruction can change it");
     else
-        printf("%zu instruction%s can change it", count, count == 1 ? "" : "s");
+        printf("%zu instruction%s can change it", count, plural(count));
 }
 
 void show_list(const struct book *book, const struct writers *writers)

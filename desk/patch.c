@@ -1,6 +1,7 @@
 /* One word of a book's program replaced, and which cells have other writers then. */
 #include "patch.h"
 
+#include "plural.h"
 #include "xref.h"
 
 #include <stdio.h>
@@ -93,7 +94,7 @@ static void show_change(const struct patch *patch, const struct change *change)
     const struct writers *before = &change->before, *after = &change->after;
     size_t old = 0, new = 0;
 
-    printf("%zu instruction%s before, %zu now\n", before->count, before->count == 1 ? "" : "s", after->count);
+    printf("%zu instruction%s before, %zu now\n", before->count, plural(before->count), after->count);
     for (unsigned address = 0; address < GALHOVEIA_WORDS; address++) {
         bool was = old < before->count && before->address[old] == address;
         bool is = new < after->count && after->address[new] == address;

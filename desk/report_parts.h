@@ -3,6 +3,7 @@
 #define DESK_REPORT_PARTS_H
 
 #include "page.h"
+#include "plural.h"
 #include "stops.h"
 #include "watch.h"
 #include "xref.h"

@@ -3,6 +3,7 @@
 #include "trace.h"
 
 #include "dump.h"
+#include "plural.h"
 #include "progress.h"
 #include "texts.h"
 
@@ -134,7 +135,7 @@ static void cut_script(struct trace *trace, const char *path)
 
     if (wanted->from > 0 && wanted->from >= events->length)
         fail("%s has %zu event%s, counted from 0, so there is no event %lu to begin with", path, events->length,
-             events->length == 1 ? "" : "s", (unsigned long)wanted->from);
+             plural(events->length), (unsigned long)wanted->from);
     rest = events->length - wanted->from;
     trace->lead.events = (struct bytes){events->at, wanted->from};
     trace->shown.events = (struct bytes){events->at + wanted->from,

@@ -1,6 +1,7 @@
 /* Cells watched while a script's events happen. */
 #include "watch.h"
 
+#include "plural.h"
 #include "progress.h"
 
 #include <stdio.h>
@@ -136,7 +137,7 @@ static void show_writers_seen(const struct watched *watched, const struct book *
         changed += watched->changed[address] > 0;
     printf("cell $%03lX%s: %llu change%s; of %zu instruction%s that can change it %zu did%s\n",
            (unsigned long)watched->cell, watched->meaning, (unsigned long long)watched->changes,
-           watched->changes == 1 ? "" : "s", watched->writers, watched->writers == 1 ? "" : "s", changed,
+           plural(watched->changes), watched->writers, plural(watched->writers), changed,
            changed < watched->writers ? ", and these never:" : "");
     for (unsigned address = 0; address < GALHOVEIA_WORDS; address++)
         if (watched->listed[address] && watched->changed[address] == 0) {
