@@ -123,7 +123,7 @@ void put_changes(struct report *report)
               "Every change was made by an instruction of the lists above; any other would have been told as a fault, "
               "and this page would not have been written.</p>\n");
     if (changes == 0) {
-        put(page, "<p>No change of a level cell: none.</p>\n");
+        put(page, "<p><b>No change</b>: no event changed a level cell.</p>\n");
         return;
     }
     put_form(page, "<p><b>%llu change%s</b>, with events counted from 0:</p>\n", (unsigned long long)changes,

@@ -170,6 +170,9 @@ static void check_changes(struct node *root, const struct expected *expected)
     struct node *row = body != NULL ? find(body, "tr", NULL) : NULL;
     struct node *left_out = section != NULL ? find(section, "p", "left-out") : NULL;
 
+    if (expected->has_run && section != NULL)
+        check((strstr(text_of(section), "No change: no event changed a level cell.") != NULL)
+              == (expected->all_changes == 0), "whether there was a change");
     for (size_t at = 0; at < expected->changes; at++) {
         check(row != NULL, "the change in event %" PRIu64 " is missing", expected->change[at].event);
         if (row == NULL)
