@@ -1,7 +1,6 @@
 /* What a command is called with. */
 #include "command.h"
 
-#include "shown.h"
 #include "texts.h"
 
 #include <stdio.h>
@@ -14,7 +13,7 @@ _Noreturn void wrong_use(const struct command *command, const char *what, const 
 {
     fflush(stdout);
     fprintf(stderr, "desk %s: %s%s%s\nusage: desk %s\ndesk %s --help tells more\n", command->name, what,
-            word ? " " : "", word ? shown(word) : "", command->usage, command->name);
+            word ? " " : "", word ? word : "", command->usage, command->name);
     end_command(WRONG_USE);
 }
 

@@ -6,7 +6,6 @@
 #include "drawing.h"
 #include "interrupt.h"
 #include "plural.h"
-#include "shown.h"
 #include "texts.h"
 
 #include <errno.h>
@@ -133,13 +132,13 @@ static void hold_session(struct debugger *debugger, bool echoes)
 
 static void show_beginning(const struct debugger *debugger, const char *book, const char *script, const char *state)
 {
-    printf("%s, ", shown(book));
+    printf("%s, ", book);
     if (state != NULL)
-        printf("the chip as in %s, ", shown(state));
+        printf("the chip as in %s, ", state);
     else
         printf("a chip just switched on, ");
     if (script != NULL)
-        printf("the script %s of %zu event%s\n", shown(script), debugger->script.length,
+        printf("the script %s of %zu event%s\n", script, debugger->script.length,
                plural(debugger->script.length));
     else
         printf("no script\n");
@@ -167,13 +166,10 @@ enum status work_debug(const struct command *command, int count, char **words)
     take_words(command, count, words, known, path, 1);
     look = look_from(command, (struct look){false, 0, COLUMNS_USUAL}, digits, columns);
     stop_from(command, &course);
-    if (is_standard(path[0]) || (script_path != NULL && is_standard(script_path))
-        || (course.state != NULL && is_standard(course.state)))
-        wrong_use(command, "standard input is where the words come from, so no file is", "-");
     if (raw_script && script_path == NULL)
         wrong_use(command, "--raw-script is for the file of", "--script");
     if (script_path != NULL)
-        script = read_script(script_path, raw_script, script_from_text, NULL);
+        script = read_script(script_path, raw_script, script_from_text);
     if (course.state != NULL)
         start_name = course.state;
     debugger = take_memory(1, sizeof *debugger);

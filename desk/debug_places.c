@@ -3,7 +3,6 @@
 #include "debug_words.h"
 
 #include "plural.h"
-#include "shown.h"
 
 #include <stdio.h>
 #include <string.h>
@@ -115,8 +114,6 @@ void do_save(struct debugger *debugger, const struct typed *typed)
             misused(typed, "not understood:", typed->argument[at]);
     if (path == NULL)
         misused(typed, "something is missing behind", typed->word->name);
-    if (is_standard(path))
-        fail("standard output is where the answers go; save needs a file");
     keep_input(path, debugger->book_path);
     keep_input(path, debugger->script_path);
     save_state(path, &debugger->now.state, force, NULL, NULL);
@@ -129,14 +126,12 @@ void do_load(struct debugger *debugger, const struct typed *typed)
     struct state state;
     struct stat there;
 
-    if (is_standard(path))
-        fail("standard input is where the words come from; load needs a file");
     if (stat(path, &there) == 0 && !S_ISREG(there.st_mode))
         fail("cannot read %s: it is no ordinary file", path);
     read_state(path, &state);
     if (!is_state(debugger->book, &state, path))
         return;
     debugger->now.state = state;
-    printf("state taken from %s\n", shown(path));
+    printf("state taken from %s\n", path);
     show_where(debugger);
 }

@@ -140,8 +140,8 @@ enum status work_demo(const struct command *command, int count, char **words)
     book_path = path_in(folder[0], "dispatcher.book");
     script_path = path_in(folder[0], "dispatcher.script");
     two_cars_path = path_in(folder[0], "science-block.script");
-    script = read_script(script_path, false, script_from_text, NULL);
-    two_cars = read_script(two_cars_path, false, two_cars_from_text, NULL);
+    script = read_script(script_path, false, script_from_text);
+    two_cars = read_script(two_cars_path, false, two_cars_from_text);
     if (read_book(book_path, &book)) {
         printf("1. The book\n\n");
         show_book(book_path, &book);

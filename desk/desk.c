@@ -11,7 +11,6 @@
 #include "patch.h"
 #include "progress.h"
 #include "report.h"
-#include "shown.h"
 #include "texts.h"
 #include "trace.h"
 #include "two.h"
@@ -36,7 +35,7 @@ static enum status work_fresh(const struct command *command, int count, char **w
     if (!make_fresh(&state, decimal_from(command, options, UINT32_MAX), "a fresh machine"))
         return REFUSED;
     write_state(path[0], &state, force);
-    printf("%s: a fresh machine\n", shown(output_name(path[0])));
+    printf("%s: a fresh machine\n", path[0]);
     return DONE;
 }
 
@@ -133,7 +132,7 @@ static enum status work_run(const struct command *command, int count, char **wor
         keep_input(wishes.save, others[at]);
     }
     keep_input(wishes.wave, course.state);
-    run.events = read_script(others[1], raw_script, script_from_text, NULL);
+    run.events = read_script(others[1], raw_script, script_from_text);
     if (start_from(command, &course, "a fresh machine", &run.start) && read_book(others[0], &book)) {
         if (wishes.show)
             may_draw(&book, wishes.look);
@@ -158,7 +157,7 @@ static enum status work_level(const struct command *command, int count, char **w
     read_state(others[1], &state);
     if (!read_book(others[0], &book))
         return REFUSED;
-    done = show_level(stdout, &book, &state, input_name(others[1]));
+    done = show_level(stdout, &book, &state, others[1]);
     give_back(book.file.at);
     return done ? DONE : REFUSED;
 }
@@ -179,7 +178,7 @@ static enum status work_picture(const struct command *command, int count, char *
     if (!read_book(others[0], &book))
         return REFUSED;
     may_draw(&book, look);
-    done = show_picture(&book, &state, input_name(others[1]), look);
+    done = show_picture(&book, &state, others[1], look);
     give_back(book.file.at);
     return done ? DONE : REFUSED;
 }
@@ -228,7 +227,7 @@ static enum status work_listing(const struct command *command, int count, char *
         return DONE;
     }
     write_file(out, text, length, force);
-    printf("%s: the listing of %s, %d lines\n", shown(output_name(out)), shown(input_name(path[0])), GALHOVEIA_WORDS);
+    printf("%s: the listing of %s, %d lines\n", out, path[0], GALHOVEIA_WORDS);
     return DONE;
 }
 
@@ -248,14 +247,14 @@ static enum status work_program(const struct command *command, int count, char *
     text = read_file(others[0], FILE_MOST);
     refusal = galhoveia_listing_read(text.at, text.length, program, sizeof program, &value);
     if (refusal != GALHOVEIA_DONE)
-        say_refusal(input_name(others[0]), refusal, value);
+        say_refusal(others[0], refusal, value);
     if (refusal == GALHOVEIA_LISTING)
         explain_listing(text, value);
     give_back(text.at);
     if (refusal != GALHOVEIA_DONE)
         return REFUSED;
     write_file(others[1], program, sizeof program, force);
-    printf("%s: a program of %d bytes\n", shown(output_name(others[1])), GALHOVEIA_PROGRAM_BYTES);
+    printf("%s: a program of %d bytes\n", others[1], GALHOVEIA_PROGRAM_BYTES);
     return DONE;
 }
 
@@ -494,8 +493,8 @@ static bool asks_for_help(const char *word)
 
 static enum status no_such_command(int argc, char **argv)
 {
-    fprintf(stderr, "desk: no such command: %s%s%s\ndesk --help names them\n", shown(argv[1]), argc > 2 ? " " : "",
-            argc > 2 ? shown(argv[2]) : "");
+    fprintf(stderr, "desk: no such command: %s%s%s\ndesk --help names them\n", argv[1], argc > 2 ? " " : "",
+            argc > 2 ? argv[2] : "");
     return WRONG_USE;
 }
 
@@ -558,12 +557,8 @@ const char *desk_called = "";
 enum status desk(int argc, char **argv)
 {
     struct line line = {argc, argv};
-    enum status status;
 
     desk_called = argc > 0 ? argv[0] : "";
     start_clock();
-    begin_files();
-    status = finish(whole_command(work_line, &line));
-    end_files();
-    return status;
+    return finish(whole_command(work_line, &line));
 }

@@ -28,90 +28,26 @@ static bool read_all(FILE *file, size_t most, struct bytes *read)
     return read->length <= most;
 }
 
-/* ---- Standard input and output ---- */
-
-static bool input_is_read;
-static int output = -1; /* what standard output was, where a file goes to it */
-
-bool is_standard(const char *path)
-{
-    return strcmp(path, "-") == 0;
-}
-
-const char *input_name(const char *path)
-{
-    return is_standard(path) ? "standard input" : path;
-}
-
-const char *output_name(const char *path)
-{
-    return is_standard(path) ? "standard output" : path;
-}
-
-void begin_files(void)
-{
-    input_is_read = false;
-}
-
-void end_files(void)
-{
-    fflush(stdout);
-    if (output >= 0) {
-        dup2(output, STDOUT_FILENO);
-        close(output);
-    }
-    output = -1;
-}
-
-/* Leads what the command says to standard error, so that the file alone goes to standard output. */
-static void free_output(void)
-{
-    if (output >= 0)
-        return;
-    fflush(stdout);
-    output = dup(STDOUT_FILENO);
-    if (output < 0 || dup2(STDERR_FILENO, STDOUT_FILENO) < 0)
-        fail("cannot write standard output: %s", strerror(errno));
-}
-
-/* Opens standard input once, and any file as often as is asked. */
-static FILE *open_input(const char *path)
-{
-    int file;
-
-    if (!is_standard(path))
-        return fopen(path, "rb");
-    if (input_is_read)
-        fail("- stands for standard input, which can be read once, and it is named twice");
-    input_is_read = true;
-    file = dup(STDIN_FILENO);
-    return file < 0 ? NULL : fdopen(file, "rb");
-}
-
-/* ---- Reading ---- */
-
 struct bytes read_file(const char *path, size_t most)
 {
     struct bytes read = {take_memory(1, 1), 0};
-    FILE *file = open_input(path);
+    FILE *file = fopen(path, "rb");
     bool fits;
     int why;
 
     if (file == NULL)
-        fail("cannot read %s: %s", input_name(path), strerror(errno));
+        fail("cannot read %s: %s", path, strerror(errno));
     errno = 0;
     fits = read_all(file, most, &read);
     why = ferror(file) ? errno : 0;
     fclose(file);
     if (why != 0)
-        fail("cannot read %s: %s", input_name(path), strerror(why));
+        fail("cannot read %s: %s", path, strerror(why));
     if (!fits)
-        fail("%s is too long: more than %zu bytes", input_name(path), most);
+        fail("%s is too long: more than %zu bytes", path, most);
     read.at[read.length] = 0;
     return read;
 }
-
-/* ---- Writing ---- */
 
 /* Ends the command if no file can be made where the path has one. */
 static void may_make(const char *path)
@@ -131,10 +67,6 @@ void may_write(const char *path, bool force)
 {
     struct stat there;
 
-    if (is_standard(path)) {
-        free_output();
-        return;
-    }
     may_make(path);
     if (lstat(path, &there) != 0)
         return;
@@ -146,7 +78,7 @@ void may_write(const char *path, bool force)
 
 void keep_input(const char *path, const char *input)
 {
-    if (path != NULL && input != NULL && !is_standard(path) && is_same_file(path, input))
+    if (path != NULL && input != NULL && is_same_file(path, input))
         fail("%s is read by this command and is left as it is, --force or not", path);
 }
 
@@ -283,12 +215,6 @@ static mode_t mode_of(const char *path)
     return 0666 & ~mask;
 }
 
-static void write_output(const uint8_t *bytes, size_t length)
-{
-    if (!write_all(output, bytes, length))
-        fail("cannot write standard output: %s", strerror(errno));
-}
-
 void write_file(const char *path, const uint8_t *bytes, size_t length, bool force)
 {
     mode_t mode = mode_of(path);
@@ -296,10 +222,6 @@ void write_file(const char *path, const uint8_t *bytes, size_t length, bool forc
     bool good;
 
     may_write(path, force);
-    if (is_standard(path)) {
-        write_output(bytes, length);
-        return;
-    }
     file = begin_beside(path);
     if (file < 0)
         fail("cannot write %s: %s", path, strerror(errno));

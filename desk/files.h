@@ -18,19 +18,6 @@ struct bytes {
 /* The longest files that are read, in bytes. */
 enum { FILE_MOST = 1 << 20, SCRIPT_FILE_MOST = 1 << 30 };
 
-/* - names standard input where a file is read, and standard output where one is written. Standard input is read once in
-   a command. Where a file goes to standard output, whatever else the command says goes to standard error, from may_write
-   on. */
-bool is_standard(const char *path);
-
-/* How a file is named to the user: a path itself, or standard input, or standard output. */
-const char *input_name(const char *path);
-const char *output_name(const char *path);
-
-/* Called before a command's work, and after it. */
-void begin_files(void);
-void end_files(void);
-
 /* The caller gives back what is read. A file of more than `most` bytes is wrong use; a 0 stands after the last byte, so
    that a text can be read as a string. */
 struct bytes read_file(const char *path, size_t most);

@@ -3,7 +3,6 @@
 
 #include "drawing.h"
 #include "plural.h"
-#include "shown.h"
 
 #include <string.h>
 
@@ -48,7 +47,7 @@ void save_state(const char *path, const struct state *state, bool force, const c
     if (taken != NULL && is_same_file(taken, path))
         fail("the state is not saved: %s is the file of %s, %s", path, what, taken);
     write_state(path, state, force);
-    printf("state saved in %s\n", shown(output_name(path)));
+    printf("state saved in %s\n", path);
 }
 
 bool read_book(const char *path, struct book *book)
@@ -60,7 +59,7 @@ bool read_book(const char *path, struct book *book)
     refusal = galhoveia_book_read(book->file.at, book->file.length, &program, &program_len, &wiring, &wiring_len, &level,
                                   &level_len, &value);
     if (refusal != GALHOVEIA_DONE) {
-        say_refusal(input_name(path), refusal, value);
+        say_refusal(path, refusal, value);
         give_back(book->file.at);
         return false;
     }
@@ -79,11 +78,11 @@ bool write_book(const char *path, struct bytes program, struct bytes wiring, str
                                             level.length, book, sizeof book, &length, &value);
 
     if (refusal != GALHOVEIA_DONE) {
-        say_refusal(output_name(path), refusal, value);
+        say_refusal(path, refusal, value);
         return false;
     }
     write_file(path, book, (size_t)length, force);
-    printf("%s: a book of %llu bytes\n", shown(output_name(path)), (unsigned long long)length);
+    printf("%s: a book of %llu bytes\n", path, (unsigned long long)length);
     return true;
 }
 
@@ -317,7 +316,7 @@ void show_book(const char *path, const struct book *book)
 {
     const struct counted_words counted = count_words(book);
 
-    printf("%s is a good book of %zu bytes\n", shown(input_name(path)), book->file.length);
+    printf("%s is a good book of %zu bytes\n", path, book->file.length);
     printf("  program: %d words, of these %u NOP and %u that are no instruction\n", GALHOVEIA_WORDS, counted.blank,
            counted.unlisted);
     printf("  wiring: %zu elements\n", book->wiring.length / GALHOVEIA_ELEMENT_BYTES);

@@ -4,10 +4,8 @@
 #include "attempt.h"
 #include "galhoveia.h"
 #include "progress.h"
-#include "shown.h"
 
 #include <stdarg.h>
-#include <stdlib.h>
 
 void describe_refusal(FILE *to, uint32_t number, uint64_t value)
 {
@@ -84,29 +82,18 @@ void say_refusal(const char *what, uint32_t number, uint64_t value)
 {
     fflush(stdout);
     clear_progress();
-    fprintf(stderr, "desk: %s: ", shown(what));
+    fprintf(stderr, "desk: %s: ", what);
     describe_refusal(stderr, number, value);
     fprintf(stderr, "\n");
 }
 
-/* The line as it was meant, with whatever names and words from outside are in it. Where there is no memory for it, the
-   form alone is said. */
 static void say(const char *kind, const char *format, va_list arguments)
 {
-    va_list again;
-    int length;
-    char *line;
-
-    va_copy(again, arguments);
-    length = vsnprintf(NULL, 0, format, again);
-    va_end(again);
-    line = length < 0 ? NULL : malloc((size_t)length + 1);
-    if (line != NULL)
-        vsnprintf(line, (size_t)length + 1, format, arguments);
     fflush(stdout);
     clear_progress();
-    fprintf(stderr, "desk: %s%s\n", kind, line != NULL ? shown(line) : format);
-    free(line);
+    fprintf(stderr, "desk: %s", kind);
+    vfprintf(stderr, format, arguments);
+    fprintf(stderr, "\n");
 }
 
 _Noreturn void fail(const char *format, ...)

@@ -228,7 +228,7 @@ enum status work_report(const struct command *command, int count, char **words)
     report->words = words;
     report->run.book = &report->book;
     if (report->script_path != NULL) {
-        report->run.events = read_script(report->script_path, raw_script, script_from_text, NULL);
+        report->run.events = read_script(report->script_path, raw_script, script_from_text);
         take_start(report, command, &course);
     }
     if (read_book(path[0], &report->book)) {

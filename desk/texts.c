@@ -52,42 +52,24 @@ bool hex_from_text(const char *text, unsigned long long most, unsigned long long
 
 /* ---- Reading files ---- */
 
-static struct bytes made_from(struct bytes file, const char *path, struct bytes (*from_text)(const char *, const char *))
-{
-    if (memchr(file.at, 0, file.length) != NULL)
-        fail("%s is no text", input_name(path));
-    return from_text(input_name(path), (const char *)file.at);
-}
-
 struct bytes read_text(const char *path, size_t most, struct bytes (*from_text)(const char *, const char *))
 {
-    struct bytes file = read_file(path, most), made = made_from(file, path, from_text);
+    struct bytes file = read_file(path, most), made;
 
+    if (memchr(file.at, 0, file.length) != NULL)
+        fail("%s is no text", path);
+    made = from_text(path, (const char *)file.at);
     give_back(file.at);
     return made;
 }
 
-static struct bytes copy_of(struct bytes bytes)
+struct bytes read_script(const char *path, bool raw, struct bytes (*from_text)(const char *, const char *))
 {
-    struct bytes copy = {take_memory(bytes.length + 1, 1), bytes.length};
-
-    memcpy(copy.at, bytes.at, bytes.length);
-    return copy;
-}
-
-struct bytes read_script(const char *path, bool raw, struct bytes (*from_text)(const char *, const char *),
-                         struct bytes *file)
-{
-    struct bytes read, script;
+    struct bytes script;
 
     begin_progress("reading the script", 0);
-    read = read_file(path, SCRIPT_FILE_MOST);
-    script = !raw ? made_from(read, path, from_text) : file != NULL ? copy_of(read) : read;
+    script = raw ? read_file(path, SCRIPT_FILE_MOST) : read_text(path, SCRIPT_FILE_MOST, from_text);
     end_progress();
-    if (file != NULL)
-        *file = read;
-    else if (!raw)
-        give_back(read.at);
     return script;
 }
 

@@ -18,10 +18,8 @@ struct bytes events_from_line(const char *line, size_t most);
 /* Reads a file of so many bytes at the most by one of these. A file with a 0 in it is no text. */
 struct bytes read_text(const char *path, size_t most, struct bytes (*from_text)(const char *, const char *));
 
-/* A script's bytes: the file itself where it is raw, else what its text comes to. Where `file` is not NULL, it gets the
-   file as it was read, which the caller gives back too. */
-struct bytes read_script(const char *path, bool raw, struct bytes (*from_text)(const char *, const char *),
-                         struct bytes *file);
+/* A script's bytes: the file itself where it is raw, else what its text comes to. */
+struct bytes read_script(const char *path, bool raw, struct bytes (*from_text)(const char *, const char *));
 
 /* Whether a word of a script is an event, without a number of times; then which. */
 bool event_from(const char *word, size_t length, uint8_t *event);

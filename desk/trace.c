@@ -171,7 +171,7 @@ enum status work_trace(const struct command *command, int count, char **words)
     for (int at = 0; at < 2; at++)
         keep_input(wanted.vcd, others[at]);
     keep_input(wanted.vcd, course.state);
-    trace.whole.events = read_script(others[1], raw_script, script_from_text, NULL);
+    trace.whole.events = read_script(others[1], raw_script, script_from_text);
     cut_script(&trace, others[1]);
     if (start_from(command, &course, "a fresh machine", &trace.whole.start) && read_book(others[0], &book)) {
         trace.lead.start = trace.whole.start;

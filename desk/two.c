@@ -152,7 +152,7 @@ enum status work_run_two(const struct command *command, int count, char **words)
     for (int car = 0; car < CARS; car++)
         for (int at = 0; at < 2; at++)
             keep_input(cars.car[car].save, others[at]);
-    cars.script = read_script(others[1], raw_script, two_cars_from_text, NULL);
+    cars.script = read_script(others[1], raw_script, two_cars_from_text);
     if (start_from(command, &course[0], names[0].fresh, &cars.car[0].state)
         && start_from(command, &course[1], names[1].fresh, &cars.car[1].state) && read_book(others[0], &book)) {
         may_draw(&book, look);

@@ -2,7 +2,6 @@
 #include "wave.h"
 
 #include "progress.h"
-#include "shown.h"
 
 #include <stdio.h>
 #include <string.h>
@@ -138,11 +137,10 @@ void write_wave(const char *path, const struct sound *sound, uint32_t rate, bool
     write_file(path, file, length, force);
     give_back(file);
     if (sound->clocks == 0)
-        printf("%s: no sound clock was done, so there is nothing to hear; a script has sound clocks by the word sound, as "
-               "in (cycle sound*4)*200\n", shown(output_name(path)));
+        printf("%s: no sound clock was done, so there is nothing to hear\n", path);
     else
-        printf("%s: %zu sound clocks, %.3f s at %lu Hz; turns of the output: channel 1 %zu, channel 2 %zu\n",
-               shown(output_name(path)), sound->clocks, (double)sound->clocks / rate, (unsigned long)rate, turns_of(sound, LEFT),
+        printf("%s: %zu sound clocks, %.3f s at %lu Hz; turns of the output: channel 1 %zu, channel 2 %zu\n", path,
+               sound->clocks, (double)sound->clocks / rate, (unsigned long)rate, turns_of(sound, LEFT),
                turns_of(sound, RIGHT));
 }
 

@@ -65,7 +65,7 @@ void prepare_lines(const char *examples)
     snprintf(path, sizeof path, "%s/dispatcher.debug", examples);
     good = with_file_lines(read_file(path, FILE_MOST));
     state = read_file("kept.state", FILE_MOST);
-    script = read_script("kept.script", false, script_from_text, NULL);
+    script = read_script("kept.script", false, script_from_text);
     if (!read_book("kept.book", &book) || !make_fresh(&start, 0, "a fresh machine"))
         finding("no session can begin");
 }

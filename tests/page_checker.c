@@ -90,7 +90,7 @@ static void take_book(struct asked *asked, const char *path)
 
 static void take_script(struct asked *asked, const char *path, bool raw)
 {
-    struct bytes script = read_script(path, raw, script_from_text, NULL);
+    struct bytes script = read_script(path, raw, script_from_text);
 
     asked->script = script.at;
     asked->script_len = script.length;
