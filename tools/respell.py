@@ -25,8 +25,7 @@ def spelled(name):
     name = name.replace("′", "'")
     if name[0].isupper():
         return "".join(part[:1].upper() + part[1:] for part in name.split("-"))
-    name = re.sub(r"([a-z0-9])([A-Z]+)", lambda m: m[1] + "_" + m[2].lower(), name.replace("-", "_"))
-    return name
+    return re.sub(r"(?<=[a-z0-9])(?=[A-Z])|(?<=[A-Z])(?=[A-Z][a-z])", "_", name.replace("-", "_")).lower()
 
 
 def texts(*patterns):
