@@ -5,6 +5,8 @@ use answer::{Answer, Outcome};
 use call_step::step;
 use refusal::Refusal;
 use sh_state::machine::Machine;
+use std::io;
+use std::io::Write;
 use wire::record;
 
 const NOP: u16 = 0xFFFF;
@@ -15,7 +17,7 @@ const PLACES: [u8; 32] = [
     37, 39, 40, 42, 43, 44, 45,
 ];
 
-#[derive(Drop)]
+#[derive(Clone, Copy)]
 pub struct Case {
     machine: Machine,
     // how many words, cells and events are lent
@@ -25,7 +27,7 @@ pub struct Case {
 }
 
 // How far single steps came.
-#[derive(Drop)]
+#[derive(Clone, Copy)]
 struct Progress {
     answer: Answer,
     events: usize,
@@ -46,47 +48,48 @@ fn started(machine: Machine) -> Case {
 
 // N options: a fresh machine. W address word, M address byte, R field number: a word, a cell, a field of the record. L words cells: how many are lent. S count event: events at the script's end. P seed, X count seed: a program and events that are drawn. G stop: the script is stepped and run.
 pub fn done(
+    out: &mut impl Write,
     case: Case,
     line: Line,
     program: &mut [u16],
     memory: &mut [u8],
     again: &mut [u8],
     script: &mut [u8],
-) -> Case {
+) -> io::Result<Case> {
     let at = line.first as usize;
     let word = (line.second % 0x10000) as u16;
     let byte = (line.second % 256) as u8;
     if line.letter == b'N' {
-        return fresh_case(line.second, program, memory);
+        return fresh_case(out, line.second, program, memory);
     }
     if line.letter == b'W' {
         put_word(program, at, word);
-        return case;
+        return Ok(case);
     }
     if line.letter == b'M' {
         lent::poke(memory, at, byte);
-        return case;
+        return Ok(case);
     }
     if line.letter == b'R' {
-        return with_field(case, line.first, word);
+        return Ok(with_field(case, line.first, word));
     }
     if line.letter == b'L' {
-        return with_lengths(case, at, line.second as usize);
+        return Ok(with_lengths(case, at, line.second as usize));
     }
     if line.letter == b'S' {
-        return with_events(case, script, line.first, byte);
+        return Ok(with_events(case, script, line.first, byte));
     }
     if line.letter == b'P' {
         drawn::program(program, line.second);
-        return case;
+        return Ok(case);
     }
     if line.letter == b'X' {
-        return with_drawn(case, script, line.first, line.second);
+        return Ok(with_drawn(case, script, line.first, line.second));
     }
     if line.letter == b'G' {
-        return gone(case, line.second, program, memory, again, script);
+        return gone(out, case, line.second, program, memory, again, script);
     }
-    case
+    Ok(case)
 }
 
 fn put_word(program: &mut [u16], i: usize, word: u16) {
@@ -95,31 +98,34 @@ fn put_word(program: &mut [u16], i: usize, word: u16) {
     }
 }
 
-fn fresh_case(options: u32, program: &mut [u16], memory: &mut [u8]) -> Case {
+fn fresh_case(
+    out: &mut impl Write,
+    options: u32,
+    program: &mut [u16],
+    memory: &mut [u8],
+) -> io::Result<Case> {
     clear_program(program);
     lent::clear(memory);
     let n = Machine::CELLS;
     if n <= memory.len() {
-        return fresh_on(options, &mut memory[..n]);
+        return fresh_on(out, options, &mut memory[..n]);
     }
-    none()
+    Ok(none())
 }
 
-fn fresh_on(options: u32, memory: &mut [u8]) -> Case {
+fn fresh_on(out: &mut impl Write, options: u32, memory: &mut [u8]) -> io::Result<Case> {
     let a = call_fresh::fresh(options, memory);
     let o = a.outcome;
-    show::text(b"fresh");
-    show::outcome(o);
-    show::text(b"\n");
+    show::text(out, b"fresh")?;
+    show::outcome(out, o)?;
+    show::text(out, b"\n")?;
     let m = a.machine;
-    started(m)
+    Ok(started(m))
 }
 
 fn clear_program(program: &mut [u16]) {
-    let mut i: usize = 0;
-    while i < program.len() {
-        program[i] = NOP;
-        i += 1;
+    for word in program.iter_mut() {
+        *word = NOP;
     }
 }
 
@@ -179,113 +185,125 @@ fn with_drawn(case: Case, script: &mut [u8], count: u32, seed: u32) -> Case {
 // An event put behind the first ones, as often as asked and as the room allows; how many there are then.
 fn appended(script: &mut [u8], from: usize, count: u32, event: u8) -> usize {
     let mut at = from;
-    let mut left = count;
-    while left != 0 {
+    for _ in 0..count {
         if at >= script.len() {
             return at;
         }
         script[at] = event;
         at += 1;
-        left -= 1;
     }
     at
 }
 
 // The case after its script, which is then empty.
 fn gone(
+    out: &mut impl Write,
     case: Case,
     stop: u32,
     program: &[u16],
     memory: &mut [u8],
     again: &mut [u8],
     script: &[u8],
-) -> Case {
+) -> io::Result<Case> {
     let n = case.words;
     if n <= program.len() {
-        return gone_words(case, stop, &program[..n], memory, again, script);
+        return gone_words(out, case, stop, &program[..n], memory, again, script);
     }
-    case
+    Ok(case)
 }
 
 fn gone_words(
+    out: &mut impl Write,
     case: Case,
     stop: u32,
     program: &[u16],
     memory: &mut [u8],
     again: &mut [u8],
     script: &[u8],
-) -> Case {
+) -> io::Result<Case> {
     let n = case.events;
     if n <= script.len() {
-        return gone_events(case, stop, program, memory, again, &script[..n]);
+        return gone_events(out, case, stop, program, memory, again, &script[..n]);
     }
-    case
+    Ok(case)
 }
 
 fn gone_events(
+    out: &mut impl Write,
     case: Case,
     stop: u32,
     program: &[u16],
     memory: &mut [u8],
     again: &mut [u8],
     script: &[u8],
-) -> Case {
+) -> io::Result<Case> {
     let n = case.cells;
     if n > memory.len() {
-        return case;
+        return Ok(case);
     }
     if n > again.len() {
-        return case;
+        return Ok(case);
     }
     lent::paste(again, 0, memory);
-    stepped(program, case.machine, &mut again[..n], script);
-    let m = ran(program, case.machine, &mut memory[..n], script, stop);
-    Case {
+    stepped(out, program, case.machine, &mut again[..n], script)?;
+    let m = ran(out, program, case.machine, &mut memory[..n], script, stop)?;
+    Ok(Case {
         machine: m,
         words: case.words,
         cells: case.cells,
         events: 0,
-    }
+    })
 }
 
 // The script by one call of run.
-fn ran(program: &[u16], m: Machine, memory: &mut [u8], script: &[u8], stop: u32) -> Machine {
+fn ran(
+    out: &mut impl Write,
+    program: &[u16],
+    m: Machine,
+    memory: &mut [u8],
+    script: &[u8],
+    stop: u32,
+) -> io::Result<Machine> {
     let a = call_run::run(program, m, memory, script, stop);
     let why = a.reason;
-    show::text(b"run");
-    show::reason(why);
-    show::left(a.events, a.machine, memory);
-    a.machine
+    show::text(out, b"run")?;
+    show::reason(out, why)?;
+    show::left(out, a.events, a.machine, memory)?;
+    Ok(a.machine)
 }
 
 // The script by a call of step for each event, up to the first refusal.
-fn stepped(program: &[u16], m: Machine, memory: &mut [u8], script: &[u8]) {
+fn stepped(
+    out: &mut impl Write,
+    program: &[u16],
+    m: Machine,
+    memory: &mut [u8],
+    script: &[u8],
+) -> io::Result<()> {
     let s = steps(program, m, memory, script);
     let a = s.answer;
     let o = a.outcome;
-    show::text(b"step");
-    show::outcome(o);
-    show::left(s.events, a.machine, memory);
+    show::text(out, b"step")?;
+    show::outcome(out, o)?;
+    show::left(out, s.events, a.machine, memory)
 }
 
 fn steps(program: &[u16], m: Machine, memory: &mut [u8], script: &[u8]) -> Progress {
     let mut now = m;
-    let mut i: usize = 0;
-    while i < script.len() {
-        let a = step::step(program, now, memory, script[i]);
+    for (i, event) in script.iter().enumerate() {
+        let a = step::step(program, now, memory, *event);
         now = a.machine;
         let o = a.outcome;
         if let Outcome::Refused(why) = o {
             return refused(why, now, i);
         }
-        i += 1;
     }
     Progress {
         answer: Answer {
             outcome: Outcome::Done,
             machine: now,
         },
-        events: i,
+        events: script.len(),
     }
 }
 

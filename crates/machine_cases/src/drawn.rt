@@ -42,10 +42,8 @@ fn event(x: u64) -> u8 {
 // A whole program.
 pub fn program(words: &mut [u16], seed: u32) {
     let mut x = seed as u64;
-    let mut i: usize = 0;
-    while i < words.len() {
-        words[i] = word(x);
-        i += 1;
+    for place in words.iter_mut() {
+        *place = word(x);
         x = next(x);
     }
 }
@@ -54,14 +52,12 @@ pub fn program(words: &mut [u16], seed: u32) {
 pub fn events(script: &mut [u8], from: usize, count: u32, seed: u32) -> usize {
     let mut x = seed as u64;
     let mut at = from;
-    let mut left = count;
-    while left != 0 {
+    for _ in 0..count {
         if at >= script.len() {
             return at;
         }
         script[at] = event(x);
         at += 1;
-        left -= 1;
         x = next(x);
     }
     at

@@ -1,7 +1,7 @@
 // A line of a case: its letter, and its last two numbers. What stands behind a semicolon is for people.
 ghost use Rattle.std.specs.Prelude.{◌≤◌};
 
-#[derive(Drop)]
+#[derive(Clone, Copy)]
 pub struct Line {
     // 0 before the first byte
     pub letter: u8,

@@ -63,12 +63,12 @@ pub record Given (facts : List Fact) (s : State) : Type 0 where
   pub said : All (Is s) facts
 
 -- a good memory and a good level body with the digits and the ground
-pub record Digits (high low ground : ℕ) (memory body : List ℕ) : Type 0 where
+pub record Digits (high low ground_stop : ℕ) (memory body : List ℕ) : Type 0 where
   pub good_memory : memory_judged memory ≡ Fine
   pub good_body : level_judged body ≡ Fine
   pub high_digit : at memory (high_cell body) ≡ high
   pub low_digit : at memory (low_cell body) ≡ low
-  pub its_ground : ground_code body ≡ ground
+  pub its_ground : ground_code body ≡ ground_stop
 
 abbrev pub nop_but : List Word → List ℕ
 nop_but [] = replicate 4096 0xFFFF
@@ -83,7 +83,7 @@ Holds (Names w i) = (decode_of w ≡ Decoded.Listed i) × (encode_of i ≡ Encod
 -- 6, with the word
 Holds (Unlisted w) = decoded_told (decode_of w) ≡ said 6 w
 -- of every such memory and body, and there are some
-Holds (Level high low ground z) =
-    ((memory body : List ℕ) → Digits high low ground memory body → level_of memory body ≡ Levelled.Level z)
-    × ((memory : List ℕ) × ((body : List ℕ) × Digits high low ground memory body))
+Holds (Level high low ground_stop z) =
+    ((memory body : List ℕ) → Digits high low ground_stop memory body → level_of memory body ≡ Levelled.Level z)
+    × ((memory : List ℕ) × ((body : List ℕ) × Digits high low ground_stop memory body))
 Holds (Writers words c l) = writers_of (nop_but words) c ≡ l
