@@ -59,8 +59,7 @@ fn tell_read(
 }
 
 // Where each body of a book lies.
-#[unsafe(no_mangle)]
-pub extern "C" fn galhoveia_book_read(
+pub fn galhoveia_book_read(
     file: &[u8],
     program: &mut u64,
     program_len: &mut u64,
@@ -85,6 +84,7 @@ pub extern "C" fn galhoveia_book_read(
     )
 }
 
+#[tactic(auto, unfolding(book_write::specs::Writing::written_told))]
 fn tell_written(a: Written, count: &mut u64, value: &mut u64) -> u32
     ensures { counted (said result value.new) count.new ≡ written_told a count.old }
 {
@@ -95,8 +95,7 @@ fn tell_written(a: Written, count: &mut u64, value: &mut u64) -> u32
 }
 
 // A book of three bodies, in the lent room.
-#[unsafe(no_mangle)]
-pub extern "C" fn galhoveia_book_write(
+pub fn galhoveia_book_write(
     program: &[u8],
     wiring: &[u8],
     level: &[u8],

@@ -22,13 +22,8 @@ fn made(memory: &mut [u8], bytes: &mut [u8], options: u32, value: &mut u64) -> u
 }
 
 // A fresh machine of the options given, in the lent memory and record.
-#[unsafe(no_mangle)]
-pub extern "C" fn galhoveia_fresh(
-    memory: &mut [u8],
-    bytes: &mut [u8],
-    options: u32,
-    value: &mut u64,
-) -> u32
+#[tactic(auto, unfolding(crate::specs::Fresh::host_fresh_of))]
+pub fn galhoveia_fresh(memory: &mut [u8], bytes: &mut [u8], options: u32, value: &mut u64) -> u32
     ensures { stepped (said result value.new) memory.new bytes.new ≡ host_fresh_of options memory.old bytes.old }
 {
     if memory.len() != Machine::CELLS {

@@ -20,13 +20,8 @@ fn tell(a: Levelled, level: &mut i32, value: &mut u64) -> u32
 }
 
 // The level that the memory's two digits show, around the ground stop.
-#[unsafe(no_mangle)]
-pub extern "C" fn galhoveia_level(
-    memory: &[u8],
-    body: &[u8],
-    level: &mut i32,
-    value: &mut u64,
-) -> u32
+#[tactic(auto, unfolding(crate::specs::Level::host_level_of))]
+pub fn galhoveia_level(memory: &[u8], body: &[u8], level: &mut i32, value: &mut u64) -> u32
     ensures { levels (said result value.new) level.new ≡ host_level_of memory.now body.now level.old }
 {
     tell(level::level(memory, body), level, value)

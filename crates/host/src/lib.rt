@@ -1,4 +1,6 @@
 // The calls as C makes them: numbers and byte slices.
+#![tactic(auto)]
+
 pub mod books;
 pub mod fresh;
 pub mod levels;

@@ -38,8 +38,8 @@ fn asked(program: &[u8], cell: u32, room: &mut [u8], count: &mut u64, value: &mu
 }
 
 // The addresses at which the instruction can leave the cell with another value, two bytes each, in the lent room.
-#[unsafe(no_mangle)]
-pub extern "C" fn galhoveia_list(
+#[tactic(auto, unfolding(crate::specs::List::host_list_of, crate::specs::Told::room_told, writers::specs::Answer::listed_told))]
+pub fn galhoveia_list(
     program: &[u8],
     cell: u32,
     room: &mut [u8],

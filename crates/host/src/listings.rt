@@ -11,6 +11,7 @@ use paper::{Taken, Written};
 use refusal::Refusal;
 use wire::words;
 
+#[tactic(auto, unfolding(paper::specs::Listing::written_told))]
 fn tell_written(a: Written, count: &mut u64, value: &mut u64) -> u32
     ensures { counted (said result value.new) count.new ≡ written_told a count.old }
 {
@@ -30,8 +31,8 @@ fn listed(program: &[u8], text: &mut [u8], count: &mut u64, value: &mut u64) -> 
 }
 
 // A program's listing, in the lent room.
-#[unsafe(no_mangle)]
-pub extern "C" fn galhoveia_listing_write(
+#[tactic(auto, unfolding(crate::specs::Listings::host_listing_write_of, crate::specs::Told::room_told, paper::specs::Listing::written_told))]
+pub fn galhoveia_listing_write(
     program: &[u8],
     text: &mut [u8],
     count: &mut u64,
@@ -57,8 +58,7 @@ fn store(ws: &[u16], room: &mut [u8], value: &mut u64) -> u32
 }
 
 // The program of a listing, in the lent room.
-#[unsafe(no_mangle)]
-pub extern "C" fn galhoveia_listing_read(text: &[u8], program: &mut [u8], value: &mut u64) -> u32
+pub fn galhoveia_listing_read(text: &[u8], program: &mut [u8], value: &mut u64) -> u32
     ensures { stored (said result value.new) program.new ≡ host_listing_read_of text.now program.old }
 {
     let mut found = [0u16; 4096];

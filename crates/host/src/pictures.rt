@@ -11,6 +11,7 @@ use crate::told;
 use picture::Drawn;
 use wire::record;
 
+#[tactic(auto, unfolding(picture::specs::Picture::drawn_told))]
 fn tell(a: Drawn, count: &mut u64, value: &mut u64) -> u32
     ensures { counted (said result value.new) count.new ≡ drawn_told a count.old }
 {
@@ -36,8 +37,8 @@ fn drawn(
 }
 
 // The picture that the machine shows, one byte for each element of the wiring, in the lent room.
-#[unsafe(no_mangle)]
-pub extern "C" fn galhoveia_picture(
+#[tactic(auto, unfolding(crate::specs::Picture::host_picture_of))]
+pub fn galhoveia_picture(
     memory: &[u8],
     bytes: &[u8],
     wiring: &[u8],

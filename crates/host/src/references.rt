@@ -11,14 +11,14 @@ use writers::Listed;
 use xref::calls;
 
 // The tables of a program, in the lent numbers.
-#[unsafe(no_mangle)]
-pub extern "C" fn galhoveia_xref_build(program: &[u8], tables: &mut [u16], value: &mut u64) -> u32
+pub fn galhoveia_xref_build(program: &[u8], tables: &mut [u16], value: &mut u64) -> u32
     ensures { stored (said result value.new) tables.new ≡ host_build_of program.now tables.old }
 {
     let a = calls::build(program, tables);
     told::outcome(a, value)
 }
 
+#[tactic(auto, unfolding(writers::specs::Answer::listed_told))]
 fn tell_listed(a: Listed, count: &mut u64, value: &mut u64) -> u32
     ensures { counted (said result value.new) count.new ≡ listed_told a count.old }
 {
@@ -29,8 +29,7 @@ fn tell_listed(a: Listed, count: &mut u64, value: &mut u64) -> u32
 }
 
 // The writers of a cell by the tables, two bytes each, in the lent room.
-#[unsafe(no_mangle)]
-pub extern "C" fn galhoveia_xref_list(
+pub fn galhoveia_xref_list(
     program: &[u8],
     tables: &[u16],
     cell: u32,
@@ -45,8 +44,7 @@ pub extern "C" fn galhoveia_xref_list(
 }
 
 // A word of the lent program replaced, with its tables.
-#[unsafe(no_mangle)]
-pub extern "C" fn galhoveia_xref_replace(
+pub fn galhoveia_xref_replace(
     program: &mut [u8],
     tables: &mut [u16],
     address: u32,

@@ -32,6 +32,7 @@ fn refused(why: Refusal, n: u64, reason: &mut u32, events: &mut u64, value: &mut
     told::refused(why, value)
 }
 
+#[tactic(auto, unfolding(call_run::specs::Run::reason_told))]
 fn tell(why: Reason, n: u64, reason: &mut u32, events: &mut u64, value: &mut u64) -> u32
     ensures { stopped (said result value.new) reason.new events.new ≡ reason_told why n reason.old events.old }
 {
@@ -65,8 +66,8 @@ fn done(
 }
 
 // A script of events on the machine in the lent memory and record.
-#[unsafe(no_mangle)]
-pub extern "C" fn galhoveia_run(
+#[tactic(auto, unfolding(crate::specs::Run::host_run_of))]
+pub fn galhoveia_run(
     program: &[u8],
     memory: &mut [u8],
     bytes: &mut [u8],

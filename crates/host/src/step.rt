@@ -25,8 +25,8 @@ fn done(program: &[u8], memory: &mut [u8], bytes: &mut [u8], event: u8, value: &
 }
 
 // One event on the machine in the lent memory and record.
-#[unsafe(no_mangle)]
-pub extern "C" fn galhoveia_step(
+#[tactic(auto, unfolding(crate::specs::Step::host_step_of))]
+pub fn galhoveia_step(
     program: &[u8],
     memory: &mut [u8],
     bytes: &mut [u8],

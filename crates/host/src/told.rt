@@ -10,6 +10,7 @@ use refusal::Refusal;
 use sh_rules::judge;
 use sh_rules::judge::Judged;
 
+#[tactic(auto, unfolding(refusal::specs::Told::done_told))]
 pub fn done(value: &mut u64) -> u32
     ensures { said result value.new ≡ done_told }
 {
@@ -17,6 +18,7 @@ pub fn done(value: &mut u64) -> u32
     0
 }
 
+#[tactic(auto, unfolding(refusal::specs::Told::refused_told))]
 pub fn refused(why: Refusal, value: &mut u64) -> u32
     ensures { said result value.new ≡ refused_told why }
 {
@@ -24,6 +26,7 @@ pub fn refused(why: Refusal, value: &mut u64) -> u32
     refusal::number(why)
 }
 
+#[tactic(auto, unfolding(sh_rules::specs::Judge::judged_told))]
 pub fn judged(j: Judged, value: &mut u64) -> u32
     ensures { said result value.new ≡ judged_told j }
 {
@@ -33,6 +36,7 @@ pub fn judged(j: Judged, value: &mut u64) -> u32
     }
 }
 
+#[tactic(auto, unfolding(answer::specs::Answer::outcome_told))]
 pub fn outcome(o: Outcome, value: &mut u64) -> u32
     ensures { said result value.new ≡ outcome_told o }
 {
@@ -51,6 +55,7 @@ pub fn written(n: u64, count: &mut u64, value: &mut u64) -> u32
 }
 
 // A record of another length than 45 bytes: the memory is judged first.
+#[tactic(auto, unfolding(crate::specs::Told::short_told))]
 pub fn short(memory: &[u8], value: &mut u64) -> u32
     ensures { said result value.new ≡ short_told memory.now }
 {

@@ -44,6 +44,7 @@ fn ended(
     told::done(value)
 }
 
+#[tactic(auto, unfolding(call_two::specs::RunTwo::outs_of))]
 fn tell(o: Outcome, reason: &mut u32, reason1: &mut u32, entries: &mut u64, value: &mut u64) -> u32
     ensures { outs (said result value.new) reason.new reason1.new entries.new ≡ outs_of o reason.old reason1.old entries.old }
 {
@@ -60,12 +61,14 @@ fn machine_judged(memory: &[u8], bytes: &[u8]) -> Judged
     judge::machine(m, memory)
 }
 
+#[tactic(auto, unfolding(crate::specs::RunTwo::short_judged))]
 fn short_judged(memory: &[u8]) -> Judged
     ensures { result ≡ short_judged memory.now }
 {
     judge::first(judge::memory(memory), Judged::Refused(Refusal::Record))
 }
 
+#[tactic(auto, unfolding(crate::specs::RunTwo::car_judged))]
 fn car_judged(memory: &[u8], bytes: &[u8]) -> Judged
     ensures { result ≡ car_judged memory.now bytes.now }
 {
@@ -118,8 +121,7 @@ fn done(
 }
 
 // A script of two cars on the machines in the lent memories and records, with their pictures.
-#[unsafe(no_mangle)]
-pub extern "C" fn galhoveia_run_two(
+pub fn galhoveia_run_two(
     program: &[u8],
     wiring: &[u8],
     memory: &mut [u8],

@@ -1,0 +1,12 @@
+-- `host::books::tell_written`: by the answer.
+use Rattle.host.proofs.Laws.{counted_said, written_at}
+use Rattle.book_write.specs.Writing.{written_told}
+use Rattle.host.proofs.books.tell_written.Goals as goal
+
+pub returns-in-Bytes : goal.returns-in-Bytes
+unfolding written_told
+returns-in-Bytes c = search (written_at, counted_said)
+
+pub returns-in-Refused : goal.returns-in-Refused
+unfolding written_told
+returns-in-Refused c = search (written_at, counted_said)
