@@ -1,4 +1,6 @@
 // One thin entry that advances a caller's machine record where it stands.
+#![tactic(auto)]
+
 ghost use Rattle.std.specs.Prelude.{◌≡◌};
 ghost use Rattle.sh_state.specs.State.{state};
 ghost use Rattle.answer.specs.Answer.{answered};

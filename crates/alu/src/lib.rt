@@ -1,11 +1,13 @@
 // The arithmetic of one instruction (01, "One instruction"): a value of four bits and the carry flag.
+#![tactic(auto)]
+
 ghost use Rattle.std.specs.Prelude.{◌≡◌};
 ghost use Rattle.alu.specs.Alu.{sum_of, added_of, calculated_of, loaded_of, decimal_added_of, six_more_of, decimal_subtracted_of, shifted_right_of};
 
 use word::Operation;
 
 // A result, and CY after it.
-#[derive(Drop)]
+#[derive(Clone, Copy)]
 pub struct Sum {
     pub value: u8,
     pub carry: u8,
@@ -19,6 +21,7 @@ fn sum_of(value: u8, carry: u8) -> Sum
 }
 
 // ADC ADD SBC SUB EOR OR AND of a cell and an operand, the accumulator or an immediate.
+#[tactic(auto, unfolding(crate::specs::Alu::calculated_of))]
 pub fn calculated(op: Operation, cell: u8, operand: u8, cy: u8) -> Sum
     ensures { result ≡ calculated_of op cell operand cy }
 {
@@ -42,6 +45,7 @@ fn added(x: u8, y: u8, c: u8) -> Sum
 }
 
 // LDA: the cell's value, CY as it was.
+#[tactic(auto, unfolding(crate::specs::Alu::loaded_of))]
 pub fn loaded(cell: u8, cy: u8) -> Sum
     ensures { result ≡ loaded_of cell cy }
 {
@@ -49,6 +53,7 @@ pub fn loaded(cell: u8, cy: u8) -> Sum
 }
 
 // DAA: decimal adjust for add.
+#[tactic(auto, unfolding(crate::specs::Alu::decimal_added_of))]
 pub fn decimal_added(value: u8, cy: u8) -> Sum
     ensures { result ≡ decimal_added_of value cy }
 {
@@ -69,6 +74,7 @@ fn six_more(value: u8) -> Sum
 }
 
 // DAS: decimal adjust for sub.
+#[tactic(auto, unfolding(crate::specs::Alu::decimal_subtracted_of))]
 pub fn decimal_subtracted(value: u8, cy: u8) -> Sum
     ensures { result ≡ decimal_subtracted_of value cy }
 {
@@ -79,6 +85,7 @@ pub fn decimal_subtracted(value: u8, cy: u8) -> Sum
 }
 
 // SHR: 0 into bit 3, bit 0 into CY.
+#[tactic(auto, unfolding(crate::specs::Alu::shifted_right_of))]
 pub fn shifted_right(value: u8) -> Sum
     ensures { result ≡ shifted_right_of value }
 {

@@ -1,16 +1,18 @@
 // What the calls fresh and step answer.
+#![tactic(auto)]
+
 use refusal::Refusal;
 use sh_state::machine::Machine;
 
 // Done, or refused.
-#[derive(Drop)]
+#[derive(Clone, Copy)]
 pub enum Outcome {
     Done,
     Refused(Refusal),
 }
 
 // An outcome, and the machine that the call leaves.
-#[derive(Drop)]
+#[derive(Clone, Copy)]
 pub struct Answer {
     pub outcome: Outcome,
     pub machine: Machine,

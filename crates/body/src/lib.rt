@@ -1,4 +1,6 @@
 // The rules of a book's bodies, kind by kind: how long a body is and which values it holds.
+#![tactic(auto)]
+
 ghost use Rattle.std.specs.Prelude.{◌≡◌, ◌*◌, ◌+◌, ◌<◌, length};
 ghost use Rattle.body.specs.Body.{wiring_length_fits, length_fits, element_fits, wiring_fits, level_fits, told, wiring_judged, level_judged, values_judged};
 
@@ -14,6 +16,7 @@ pub const WIRING: u8 = 2;
 pub const LEVEL: u8 = 3;
 
 // Whether this many bytes are 1-240 elements of 3.
+#[tactic(auto, unfolding(crate::specs::Body::wiring_length_fits))]
 fn wiring_length_fits(n: usize) -> bool
     ensures { result ≡ wiring_length_fits n }
 {
@@ -27,6 +30,7 @@ fn wiring_length_fits(n: usize) -> bool
 }
 
 // Whether a kind takes a body of this many bytes.
+#[tactic(auto, unfolding(crate::specs::Body::length_fits))]
 pub fn length_fits(kind: u8, n: usize) -> bool
     ensures { result ≡ length_fits kind n }
 {
@@ -43,6 +47,7 @@ pub fn length_fits(kind: u8, n: usize) -> bool
 }
 
 // Whether an element has a display address and a bit of a nibble.
+#[tactic(auto, unfolding(crate::specs::Body::element_fits))]
 fn element_fits(wiring: &[u8], k: usize) -> bool
     requires { 3 * k + 2 < length wiring.now }
     ensures { result ≡ element_fits wiring.now k }
@@ -53,6 +58,7 @@ fn element_fits(wiring: &[u8], k: usize) -> bool
 }
 
 // Whether every element of a kind 2 body keeps its rule.
+#[tactic(auto, unfolding(crate::specs::Body::wiring_fits))]
 fn wiring_fits(wiring: &[u8]) -> bool
     ensures { result ≡ wiring_fits wiring.now }
 {
@@ -68,6 +74,7 @@ fn wiring_fits(wiring: &[u8]) -> bool
 }
 
 // Whether a kind 3 body has two different cells of data, display or scan and a ground code.
+#[tactic(auto, unfolding(crate::specs::Body::level_fits))]
 fn level_fits(level: &[u8]) -> bool
     ensures { result ≡ level_fits level.now }
 {
@@ -79,6 +86,7 @@ fn level_fits(level: &[u8]) -> bool
 }
 
 // A judgement by one test.
+#[tactic(auto, unfolding(crate::specs::Body::told))]
 pub fn told(fits: bool, why: Refusal) -> Judged
     ensures { result ≡ told fits why }
 {
@@ -89,6 +97,7 @@ pub fn told(fits: bool, why: Refusal) -> Judged
 }
 
 // The values of the bodies of kinds 2 and 3, the lowest kind first.
+#[tactic(auto, unfolding(crate::specs::Body::values_judged))]
 pub fn values(wiring: &[u8], level: &[u8]) -> Judged
     ensures { result ≡ values_judged wiring.now level.now }
 {
@@ -99,6 +108,7 @@ pub fn values(wiring: &[u8], level: &[u8]) -> Judged
 }
 
 // A kind 2 body that is lent by itself.
+#[tactic(auto, unfolding(crate::specs::Body::wiring_judged))]
 pub fn wiring(body: &[u8]) -> Judged
     ensures { result ≡ wiring_judged body.now }
 {
@@ -109,6 +119,7 @@ pub fn wiring(body: &[u8]) -> Judged
 }
 
 // A kind 3 body that is lent by itself.
+#[tactic(auto, unfolding(crate::specs::Body::level_judged))]
 pub fn level(body: &[u8]) -> Judged
     ensures { result ≡ level_judged body.now }
 {

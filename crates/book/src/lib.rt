@@ -1,4 +1,6 @@
 // A panel book as it is read: the contents first, then the bodies of kinds 1, 2 and 3 with no gap, to the end of the file.
+#![tactic(auto)]
+
 ghost use Rattle.std.specs.Prelude.{◌≡◌};
 ghost use Rattle.book.specs.Book.{part_of, length_at, parts_of, entry_fits, contents_fit, book_judged, reading_of, read_of};
 
@@ -18,20 +20,20 @@ const WIRING_ENTRY: u8 = 6;
 const LEVEL_ENTRY: u8 = 11;
 
 // Where a body lies in its file.
-#[derive(Drop)]
+#[derive(Clone, Copy)]
 pub struct Place {
     pub offset: usize,
     pub length: usize,
 }
 
-#[derive(Drop)]
+#[derive(Clone, Copy)]
 pub struct Parts {
     pub program: Place,
     pub wiring: Place,
     pub level: Place,
 }
 
-#[derive(Drop)]
+#[derive(Clone, Copy)]
 pub enum Reading {
     Parts(Parts),
     Refused(Refusal),
@@ -53,6 +55,7 @@ pub fn part(book: &[u8], offset: usize, length: usize) -> &[u8]
 }
 
 // The length that the entry at a place of the contents gives.
+#[tactic(auto, unfolding(crate::specs::Book::length_at))]
 fn length_at(book: &[u8], place: u8) -> u16
     ensures { result ≡ length_at book.now place }
 {
@@ -60,6 +63,7 @@ fn length_at(book: &[u8], place: u8) -> u16
 }
 
 // Where the three bodies lie, one after the other, by the lengths that the contents give.
+#[tactic(auto, unfolding(crate::specs::Book::parts_of))]
 fn places(book: &[u8]) -> Parts
     ensures { result ≡ parts_of book.now }
 {
@@ -83,6 +87,7 @@ fn places(book: &[u8]) -> Parts
 }
 
 // Whether the entry at a place names its kind, starts its body at an offset, and gives a length that the kind takes.
+#[tactic(auto, unfolding(crate::specs::Book::entry_fits))]
 fn entry_fits(book: &[u8], place: u8, kind: u8, offset: usize) -> bool
     ensures { result ≡ entry_fits book.now place kind offset }
 {
@@ -94,6 +99,7 @@ fn entry_fits(book: &[u8], place: u8, kind: u8, offset: usize) -> bool
 }
 
 // Whether the contents and the file's length are right: each body starts where the one before it ends, the last ends the file.
+#[tactic(auto, unfolding(crate::specs::Book::contents_fit, crate::specs::Book::parts_of))]
 fn contents_fit(book: &[u8]) -> bool
     ensures { result ≡ contents_fit book.now }
 {
@@ -112,6 +118,7 @@ fn contents_fit(book: &[u8]) -> bool
 }
 
 // What a book is turned down for: its contents before its bodies.
+#[tactic(auto, unfolding(crate::specs::Book::book_judged))]
 fn judged(book: &[u8]) -> Judged
     ensures { result ≡ book_judged book.now }
 {
@@ -124,6 +131,7 @@ fn judged(book: &[u8]) -> Judged
     )
 }
 
+#[tactic(auto, unfolding(crate::specs::Book::reading_of))]
 fn told(j: Judged, p: Parts) -> Reading
     ensures { result ≡ reading_of j p }
 {
@@ -134,6 +142,7 @@ fn told(j: Judged, p: Parts) -> Reading
 }
 
 // Where each body of a book lies, or why the book is turned down.
+#[tactic(auto, unfolding(crate::specs::Book::read_of))]
 pub fn read(book: &[u8]) -> Reading
     ensures { result ≡ read_of book.now }
 {

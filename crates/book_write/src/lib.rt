@@ -1,4 +1,6 @@
 // A panel book as it is written: three bodies behind their contents.
+#![tactic(auto)]
+
 ghost use Rattle.std.specs.Prelude.{◌≡◌};
 ghost use Rattle.lent.specs.Outcome.{outcome};
 ghost use Rattle.book_write.specs.Writing.{contents_of, book_of, bodies_judged, Lengths, bodies_put, put_of, write_of};
@@ -7,13 +9,14 @@ use refusal::Refusal;
 use sh_rules::judge;
 use sh_rules::judge::Judged;
 
-#[derive(Drop)]
+#[derive(Clone, Copy)]
 pub enum Written {
     Bytes(usize),
     Refused(Refusal),
 }
 
 // The contents for bodies of these lengths.
+#[tactic(auto, unfolding(crate::specs::Writing::contents_of))]
 fn contents(program: u16, wiring: u16, level: u16) -> [u8; book::CONTENTS]
     ensures { result ≡ contents_of program wiring level }
 {
@@ -41,6 +44,7 @@ fn contents(program: u16, wiring: u16, level: u16) -> [u8; book::CONTENTS]
 }
 
 // What three bodies are turned down for: their lengths before their values.
+#[tactic(auto, unfolding(crate::specs::Writing::bodies_judged))]
 fn bodies(program: &[u8], wiring: &[u8], level: &[u8]) -> Judged
     ensures { result ≡ bodies_judged program.now wiring.now level.now }
 {
@@ -54,6 +58,7 @@ fn bodies(program: &[u8], wiring: &[u8], level: &[u8]) -> Judged
 }
 
 // The three bodies, one behind the other, behind the contents.
+#[tactic(auto, unfolding(crate::specs::Writing::bodies_put))]
 fn put_bodies(program: &[u8], wiring: &[u8], level: &[u8], room: &mut [u8])
     requires { Lengths program.now wiring.now level.now }
     ensures { room.new ≡ bodies_put program.now wiring.now level.now room.old }
@@ -85,6 +90,7 @@ fn put(program: &[u8], wiring: &[u8], level: &[u8], room: &mut [u8]) -> Written
 }
 
 // The book of three bodies at the front of a room, or why it is not written; what lies beyond it stays.
+#[tactic(auto, unfolding(crate::specs::Writing::write_of, crate::specs::Writing::written_of))]
 pub fn write(program: &[u8], wiring: &[u8], level: &[u8], room: &mut [u8]) -> Written
     ensures { outcome result room.new ≡ write_of program.now wiring.now level.now room.old }
 {

@@ -1,4 +1,6 @@
 // The call fresh: a machine as it leaves its first pin reset.
+#![tactic(auto)]
+
 ghost use Rattle.std.specs.Prelude.{◌≡◌};
 ghost use Rattle.sh_state.specs.Record.{fresh_of};
 ghost use Rattle.sh_state.specs.State.{state};
@@ -12,6 +14,7 @@ use sh_reset::reset;
 use sh_reset::reset::Column;
 use sh_state::machine::Machine;
 
+#[tactic(auto, unfolding(crate::specs::Fresh::fresh_memory_of))]
 fn fresh_memory(options: u8, memory: &mut [u8])
     ensures { memory.new ≡ fresh_memory_of options memory.old }
 {
@@ -39,6 +42,7 @@ fn not_made(memory: &[u8], why: Refusal) -> Answer
 }
 
 // A fresh machine of the options given, and its memory in the lent one.
+#[tactic(auto, unfolding(crate::specs::Fresh::fresh_call_of))]
 pub fn fresh(options: u32, memory: &mut [u8]) -> Answer
     ensures { answered result.outcome (state result.machine memory.new) ≡ fresh_call_of options memory.old }
 {

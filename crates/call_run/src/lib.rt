@@ -1,4 +1,6 @@
 // The call run: a script of events.
+#![tactic(auto)]
+
 ghost use Rattle.std.specs.Prelude.{◌≤◌, ◌≡◌, length, drop};
 ghost use Rattle.lent.specs.Lent.{both};
 ghost use Rattle.sh_rules.specs.Judge.{state_judged};
@@ -17,7 +19,7 @@ use sh_state::machine::Machine;
 const MANY: usize = 64;
 
 // Why it stopped, or the refusal.
-#[derive(Drop)]
+#[derive(Clone, Copy)]
 pub enum Reason {
     Address,
     End,
@@ -25,13 +27,14 @@ pub enum Reason {
 }
 
 // A run's reason, how many events were done, and the machine that it leaves.
-#[derive(Drop)]
+#[derive(Clone, Copy)]
 pub struct RunAnswer {
     pub reason: Reason,
     pub events: usize,
     pub machine: Machine,
 }
 
+#[tactic(auto, unfolding(crate::specs::Run::reason_of))]
 fn stopped(why: Stop, m: Machine) -> Reason
     ensures { result ≡ reason_of why m }
 {
@@ -42,6 +45,7 @@ fn stopped(why: Stop, m: Machine) -> Reason
     }
 }
 
+#[tactic(auto, unfolding(crate::specs::Run::run_told_of))]
 fn told(program: &[u16], m: Machine, memory: &mut [u8], script: &[u8], target: u32) -> RunAnswer
     ensures { run_answered result.reason result.events (state result.machine memory.new) ≡ run_told_of (run_of program.now target script.now (state m memory.old) 0) }
 {
@@ -108,6 +112,7 @@ fn unknown(script: &[u8]) -> Found
     first_unknown(script)
 }
 
+#[tactic(auto, unfolding(crate::specs::Run::run_found_of))]
 fn run_found(
     program: &[u16],
     m: Machine,
@@ -140,6 +145,7 @@ fn run_known(
     run_found(program, m, memory, script, target, unknown(script))
 }
 
+#[tactic(auto, unfolding(crate::specs::Run::run_judged_of))]
 fn run_judged(
     program: &[u16],
     m: Machine,
@@ -174,6 +180,7 @@ fn run_by_judge(
 }
 
 // The run of a script, or the lowest refusal; only one by 6 has moved anything.
+#[tactic(auto, unfolding(crate::specs::Run::run_call_of))]
 pub fn run(program: &[u16], m: Machine, memory: &mut [u8], script: &[u8], target: u32) -> RunAnswer
     ensures { run_answered result.reason result.events (state result.machine memory.new) ≡ run_call_of program.now (state m memory.old) script.now target }
 {

@@ -1,2 +1,4 @@
 // The call step, with its refusals.
+#![tactic(auto)]
+
 pub mod step;

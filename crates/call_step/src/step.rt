@@ -13,6 +13,7 @@ use sh_rules::judge;
 use sh_rules::judge::Judged;
 use sh_state::machine::Machine;
 
+#[tactic(auto, unfolding(crate::specs::Step::told_of))]
 fn told(program: &[u16], m: Machine, memory: &mut [u8], e: u8) -> Answer
     ensures { answered result.outcome (state result.machine memory.new) ≡ told_of (event_of program.now (state m memory.old) e) }
 {
@@ -30,6 +31,7 @@ fn told(program: &[u16], m: Machine, memory: &mut [u8], e: u8) -> Answer
     }
 }
 
+#[tactic(auto, unfolding(crate::specs::Step::stepped_of))]
 fn stepped(program: &[u16], m: Machine, memory: &mut [u8], e: u8) -> Answer
     ensures { answered result.outcome (state result.machine memory.new) ≡ stepped_of program.now (state m memory.old) e }
 {
@@ -42,6 +44,7 @@ fn stepped(program: &[u16], m: Machine, memory: &mut [u8], e: u8) -> Answer
     }
 }
 
+#[tactic(auto, unfolding(crate::specs::Step::step_judged_of))]
 fn step_judged(program: &[u16], m: Machine, memory: &mut [u8], e: u8, j: Judged) -> Answer
     ensures { answered result.outcome (state result.machine memory.new) ≡ step_judged_of program.now (state m memory.old) e j }
 {
@@ -62,6 +65,7 @@ fn step_by_judge(program: &[u16], m: Machine, memory: &mut [u8], e: u8) -> Answe
 }
 
 // One event on a machine, or the lowest refusal; a refusal changes nothing.
+#[tactic(auto, unfolding(crate::specs::Step::step_of))]
 pub fn step(program: &[u16], m: Machine, memory: &mut [u8], e: u8) -> Answer
     ensures { answered result.outcome (state result.machine memory.new) ≡ step_of program.now (state m memory.old) e }
 {

@@ -1,4 +1,6 @@
 // The run of two cars: its refusals, the run, and both pictures.
+#![tactic(auto)]
+
 mod script;
 
 ghost use Rattle.std.specs.Prelude.{◌≡◌};
@@ -13,14 +15,14 @@ use sh_run::Stop;
 use sh_state::machine::Machine;
 
 // Why each car stopped and how many entries were read, or the refusal.
-#[derive(Drop)]
+#[derive(Clone, Copy)]
 pub enum Outcome {
     Ended(Stop, Stop, usize),
     Refused(Refusal),
 }
 
 // The outcome, and the cars' machines as the run leaves them.
-#[derive(Drop)]
+#[derive(Clone, Copy)]
 pub struct Answer {
     pub outcome: Outcome,
     pub first: Machine,
@@ -38,6 +40,7 @@ fn lower(v: Refusal, w: Refusal) -> Judged
 }
 
 // What turns car 0 down, beside the judgement of car 1.
+#[tactic(auto, unfolding(crate::specs::RunTwo::lowest_of))]
 fn beside(v: Refusal, b: Judged) -> Judged
     ensures { result ≡ lowest_of (Judged.Refused v) b }
 {
@@ -48,6 +51,7 @@ fn beside(v: Refusal, b: Judged) -> Judged
 }
 
 // Of two cars' judgements the one with the lower number, and at equal numbers car 0's.
+#[tactic(auto, unfolding(crate::specs::RunTwo::lowest_of))]
 pub fn lowest(a: Judged, b: Judged) -> Judged
     ensures { result ≡ lowest_of a b }
 {
@@ -58,6 +62,7 @@ pub fn lowest(a: Judged, b: Judged) -> Judged
 }
 
 // 1, and 2 to 4 of both cars.
+#[tactic(auto, unfolding(crate::specs::RunTwo::cars_lent_judged))]
 fn cars_lent(program: &[u16], m: Machine, memory: &[u8], m1: Machine, memory1: &[u8]) -> Judged
     ensures { result ≡ cars_lent_judged program.now (state m memory.now) (state m1 memory1.now) }
 {
@@ -69,6 +74,7 @@ fn cars_lent(program: &[u16], m: Machine, memory: &[u8], m1: Machine, memory1: &
 }
 
 // 5, 10, 11, 27 and 28, each by a look at every byte.
+#[tactic(auto, unfolding(crate::specs::RunTwo::script_judged))]
 fn script_by_one(wiring: &[u8], script: &[u8]) -> Judged
     ensures { result ≡ script_judged wiring.now script.now }
 {
@@ -92,6 +98,7 @@ fn script_judged(wiring: &[u8], script: &[u8]) -> Judged
 }
 
 // 7.
+#[tactic(auto, unfolding(crate::specs::RunTwo::room_judged))]
 fn room_judged(wiring: &[u8], room: &[u8]) -> Judged
     ensures { result ≡ room_judged wiring.now room.now }
 {
@@ -102,6 +109,7 @@ fn room_judged(wiring: &[u8], room: &[u8]) -> Judged
     Judged::Fine
 }
 
+#[tactic(auto, unfolding(crate::specs::RunTwo::two_judged))]
 fn judged(
     program: &[u16],
     wiring: &[u8],
@@ -154,6 +162,7 @@ fn ended(
     }
 }
 
+#[tactic(auto, unfolding(crate::specs::RunTwo::ran_of))]
 fn by_judge(
     program: &[u16],
     wiring: &[u8],

@@ -45,6 +45,7 @@ pub fn fine(script: &[u8]) -> bool
     lent::both(fine_by_one(script, i, all), lent::both(whole, ok))
 }
 
+#[tactic(auto, unfolding(crate::specs::Script::event_fits))]
 fn event_fits(i: usize, e: u8) -> bool
     ensures { result ≡ event_fits i e }
 {
@@ -54,6 +55,7 @@ fn event_fits(i: usize, e: u8) -> bool
     true
 }
 
+#[tactic(auto, unfolding(crate::specs::Script::car_fits))]
 fn car_fits(i: usize, c: u8) -> bool
     ensures { result ≡ car_fits i c }
 {
@@ -89,6 +91,7 @@ fn first_no_car(script: &[u8]) -> Found
     Found::Nothing
 }
 
+#[tactic(auto, unfolding(crate::specs::Script::events_judged))]
 fn events_found(f: Found) -> Judged
     ensures { result ≡ events_judged f }
 {
@@ -98,6 +101,7 @@ fn events_found(f: Found) -> Judged
     }
 }
 
+#[tactic(auto, unfolding(crate::specs::Script::cars_judged))]
 fn cars_found(f: Found) -> Judged
     ensures { result ≡ cars_judged f }
 {
@@ -122,6 +126,7 @@ pub fn cars(script: &[u8]) -> Judged
 }
 
 // 28.
+#[tactic(auto, unfolding(crate::specs::Script::cut_judged, body::specs::Body::told))]
 pub fn cut(script: &[u8]) -> Judged
     ensures { result ≡ cut_judged script.now }
 {

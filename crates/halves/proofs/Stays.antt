@@ -30,7 +30,7 @@ use Rattle.sh_sound.specs.Sound.{sound_of}
 use Rattle.sh_interrupts.specs.Interrupt.{due_of, awake_of, entered_of, interrupted_of}
 use Rattle.sh_execute.specs.Execute.{onward_of, took_of, put_of, accumulated_of, stored_of, load_of, accumulator_form_of, memory_form_of, lda_of, sta_of, ldi_of, with_immediate_of, stored_immediate_of, immediate_form_of, daa_of, das_of, taken_of, branch_if_of, branch_of, call_of, rtnw_of, rtni_of, rest_of, shr_of, tjmp_of, execute_of}
 use Rattle.sh_cycle.specs.Cycle.{read_taken_of, woken_of, clock_of, finished_of, executed_of, instructed_of, interrupt_cycle_of, awake_cycle_of, asleep_cycle_of, cycle_due_of, cycle_of}
-use Rattle.sh_events.specs.Ports.{port_aof, port_bof, port_cof}
+use Rattle.sh_events.specs.Ports.{port_a_of, port_b_of, port_c_of}
 use Rattle.sh_events.specs.Event.{base_pulse_of, watchdog_pulse_of, pins_of, other_of, event_of}
 use Rattle.origins.specs.Origin.{after_of}
 use Rattle.halves.specs.Between.{half_of, touches_by, word_does, cycle_does, resets_of, touches_of, None}
@@ -176,7 +176,7 @@ cycle_stays p s e =
 -- Every event.
 
 pub pins_stay : (s : State) (e : ℕ) → Left s (pins_of s e)
-unfolding pins_of port_aof port_bof port_cof set_pin_a set_pin_b set_pin_c set_pin_d
+unfolding pins_of port_a_of port_b_of port_c_of set_pin_a set_pin_b set_pin_c set_pin_d
 pins_stay s e =
     by_choice (Left s) (eqb (e / 16) 1) _ _ (fallen_stays (set_pin_a s.machine (e % 16)) _ _)
     (by_choice (Left s) (eqb (e / 16) 2) _ _ refl

@@ -1,10 +1,12 @@
 // Bytes and words that a caller lends, read and written by total functions: no index is asked to be in range, but for those of `joined`,
 // which is only quick without a test for each byte.
+#![tactic(auto)]
+
 ghost use Rattle.std.specs.Prelude.{◌-◌, ◌≤◌, ◌≡◌, length, replicate, set};
 ghost use Rattle.lent.specs.Lent.{at, both, pair_at_of, pair_set_of, pasted_of, joined_of};
 
 // The place of what was looked for, where there is one.
-#[derive(Drop)]
+#[derive(Clone, Copy)]
 pub enum Found {
     At(usize),
     Nothing,
@@ -50,6 +52,7 @@ pub fn fetch(words: &[u16], i: usize) -> u16
 }
 
 // Two bytes from a place on as a number, high byte first.
+#[tactic(auto, unfolding(crate::specs::Lent::pair_at_of))]
 pub fn pair_at(bytes: &[u8], i: usize) -> u16
     ensures { result ≡ pair_at_of bytes.now i }
 {
@@ -60,6 +63,7 @@ pub fn pair_at(bytes: &[u8], i: usize) -> u16
 }
 
 // A number in two bytes from a place on, high byte first.
+#[tactic(auto, unfolding(crate::specs::Lent::pair_set_of))]
 pub fn pair_set(bytes: &mut [u8], i: usize, v: u16)
     ensures { bytes.new ≡ pair_set_of bytes.old i v }
 {
@@ -70,6 +74,7 @@ pub fn pair_set(bytes: &mut [u8], i: usize, v: u16)
 }
 
 // Bytes copied into a part that starts at a place; nothing happens where they do not fit.
+#[tactic(auto, unfolding(crate::specs::Lent::pasted_of))]
 pub fn paste(bytes: &mut [u8], i: usize, from: &[u8])
     ensures { bytes.new ≡ pasted_of bytes.old i from.now }
 {

@@ -16,10 +16,10 @@ code_of high low = 8 * high + low
 
 -- 9: "a level digit above 7", with it "0 high, 1 low"; "in a level the high digit" first
 unfoldable pub level_at : ℕ → ℕ → ℕ → Levelled
-level_at high low ground =
+level_at high low ground_stop =
     pick (ltb 7 high) (levelled.Refused (refusal.Digit 0))
     (pick (ltb 7 low) (levelled.Refused (refusal.Digit 1))
-    (levelled.Level (pos (code_of high low) -ℤ pos ground)))
+    (levelled.Level (pos (code_of high low) -ℤ pos ground_stop)))
 
 -- the digits in a body's two cells, and its ground code
 unfoldable pub level_in : List ℕ → List ℕ → Levelled

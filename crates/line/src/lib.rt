@@ -1,4 +1,6 @@
 // A line of a listing, written and read: address, word, mnemonic and operands (02, P3).
+#![tactic(auto)]
+
 ghost use Rattle.std.specs.Prelude.{◌≡◌, ◌++◌, ◌+◌, ◌≤◌, ◌<◌, ◌^◌, length, drop};
 ghost use Rattle.text.specs.Text.{begins, laid_of};
 ghost use Rattle.mnemonics.specs.Mnemonics.{row_of, Fair, Fits};
@@ -114,6 +116,7 @@ pub fn put(room: &mut [u8], p: usize, a: u16, w: u16) -> usize
 }
 
 // How many bytes an operand takes.
+#[tactic(auto, unfolding(crate::specs::Line::width_of))]
 fn width(k: Kind) -> usize
     requires { Fair k }
     ensures { result ≡ width_of k }
@@ -125,6 +128,7 @@ fn width(k: Kind) -> usize
 }
 
 // How many bytes a word's line has, whatever its address.
+#[tactic(auto, unfolding(crate::proofs::Laws::lengths))]
 pub fn length(w: u16) -> usize
     ensures { (result ≡ length (line_of 0 w)) × (result < 22) }
 {

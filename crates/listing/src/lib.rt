@@ -1,4 +1,6 @@
 // Which words are listed (01, "Instruction words"): those that are read as an instruction are those that 01 names.
+#![tactic(auto)]
+
 ghost use Rattle.std.specs.Prelude.{◌≡◌};
 ghost use Rattle.listing.specs.Ranges.{named_by01};
 

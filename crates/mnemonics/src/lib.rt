@@ -1,18 +1,20 @@
 // The mnemonics in one table, with the kinds of their operands, and what each word shows on paper (02, P3).
+#![tactic(auto)]
+
 ghost use Rattle.std.specs.Prelude.{◌≡◌};
 ghost use Rattle.word.specs.Word.{decode_of};
 ghost use Rattle.mnemonics.specs.Mnemonics.{row_of, shown_of};
 ghost use Rattle.mnemonics.specs.Names.{name_of, letters_in};
 
 // A kind of operand: how many digits it has, and below which number it is. No digits: no operand.
-#[derive(Drop)]
+#[derive(Clone, Copy)]
 pub struct Kind {
     pub digits: usize,
     pub below: u32,
 }
 
 // What a line shows: a row of the table, and its operands' numbers; 0 where there is no operand.
-#[derive(Drop)]
+#[derive(Clone, Copy)]
 pub struct Shown {
     pub row: usize,
     pub first: u16,
@@ -74,6 +76,7 @@ const NAMES: [u64; ROWS] = [
 ];
 
 // A row's name, and 0 past the last row.
+#[tactic(auto, unfolding(crate::specs::Names::name_of, crate::specs::Names::names))]
 pub fn name(row: usize) -> u64
     ensures { result ≡ name_of row }
 {
@@ -84,6 +87,7 @@ pub fn name(row: usize) -> u64
 }
 
 // How many letters a name has.
+#[tactic(auto, unfolding(crate::specs::Names::letters_in))]
 pub fn letters(name: u64) -> usize
     ensures { result ≡ letters_in name }
 {
@@ -100,6 +104,7 @@ pub fn letters(name: u64) -> usize
 }
 
 // A row's first operand.
+#[tactic(auto, unfolding(crate::proofs::Laws::first_by))]
 pub fn first(row: usize) -> Kind
     ensures { result ≡ (row_of row).first }
 {
@@ -146,6 +151,7 @@ pub fn first(row: usize) -> Kind
 }
 
 // A row's second operand.
+#[tactic(auto, unfolding(crate::proofs::Laws::second_by))]
 pub fn second(row: usize) -> Kind
     ensures { result ≡ (row_of row).second }
 {
@@ -168,6 +174,7 @@ pub fn second(row: usize) -> Kind
 }
 
 // The row that a word shows.
+#[tactic(auto, unfolding(crate::proofs::Laws::row_by))]
 pub fn row_of(word: u16) -> usize
     ensures { result ≡ (shown_of (decode_of word)).row }
 {
@@ -211,6 +218,7 @@ pub fn row_of(word: u16) -> usize
 }
 
 // The number of a word's first operand, by its row.
+#[tactic(auto, unfolding(crate::proofs::Laws::first_in))]
 fn first_of(word: u16, row: usize) -> u16
     requires { row ≡ (shown_of (decode_of word)).row }
     ensures { result ≡ (shown_of (decode_of word)).first }
@@ -237,6 +245,7 @@ fn first_of(word: u16, row: usize) -> u16
 }
 
 // The number of a word's second operand, by its row.
+#[tactic(auto, unfolding(crate::proofs::Laws::second_in))]
 fn second_of(word: u16, row: usize) -> u16
     requires { row ≡ (shown_of (decode_of word)).row }
     ensures { result ≡ (shown_of (decode_of word)).second }

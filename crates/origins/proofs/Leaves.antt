@@ -16,7 +16,7 @@ use Rattle.sh_watchdog.specs.Watchdog.{expires_of}
 use Rattle.sh_interrupts.specs.Interrupt.{due_of, awake_of}
 use Rattle.sh_interrupts.proofs.Leaves.{interrupted_leaves}
 use Rattle.sh_cycle.specs.Cycle.{Happened, woken_of, interrupt_cycle_of, awake_cycle_of, asleep_cycle_of, cycle_due_of, cycle_of}
-use Rattle.sh_events.specs.Ports.{port_aof, port_bof, port_cof}
+use Rattle.sh_events.specs.Ports.{port_a_of, port_b_of, port_c_of}
 use Rattle.sh_events.specs.Event.{base_pulse_of, watchdog_pulse_of, pins_of, other_of, event_of}
 use Rattle.writers.proofs.Cell.{past_registers}
 use Rattle.writers.proofs.Step.{requested_stays, finished_stays}
@@ -46,16 +46,16 @@ module _ (c : ℕ) (h : askable_of c ≡ true) where
   unfolding watchdog_pulse_of
   watchdog_pulse_leaves s f = by_test (Same c s) (expires_of s.machine) _ _ (λ e. reset_leaves c h Watchdog s f) (λ e. refl)
 
-  port_a_leaves : (s : State) (pins : ℕ) → Same c s (port_aof s pins)
-  unfolding port_aof
+  port_a_leaves : (s : State) (pins : ℕ) → Same c s (port_a_of s pins)
+  unfolding port_a_of
   port_a_leaves s pins = requested_stays c low _ _ ∙ requested_stays c low s.memory _
 
-  port_b_leaves : (s : State) (pins : ℕ) → Same c s (port_bof s pins)
-  unfolding port_bof
+  port_b_leaves : (s : State) (pins : ℕ) → Same c s (port_b_of s pins)
+  unfolding port_b_of
   port_b_leaves s pins = requested_stays c low s.memory _
 
-  port_c_leaves : (s : State) (pins : ℕ) → Same c s (port_cof s pins)
-  unfolding port_cof
+  port_c_leaves : (s : State) (pins : ℕ) → Same c s (port_c_of s pins)
+  unfolding port_c_of
   port_c_leaves s pins = requested_stays c low s.memory _
 
   pins_leave : (s : State) (e : ℕ) → Same c s (pins_of s e)

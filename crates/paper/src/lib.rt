@@ -1,4 +1,6 @@
 // A program on paper: 4,096 lines of text, and the same text back into 4,096 words (02, P3).
+#![tactic(auto)]
+
 ghost use Rattle.std.specs.Prelude.{◌≡◌, ◌≤◌, length};
 ghost use Rattle.lent.specs.Lent.{over};
 ghost use Rattle.lent.specs.Outcome.{outcome};
@@ -7,20 +9,20 @@ ghost use Rattle.paper.specs.Listing.{listing_of, good_lines, write_of, read_of}
 
 use refusal::Refusal;
 
-#[derive(Drop)]
+#[derive(Clone, Copy)]
 pub enum Written {
     Bytes(usize),
     Refused(Refusal),
 }
 
-#[derive(Drop)]
+#[derive(Clone, Copy)]
 pub enum Taken {
     Words,
     Refused(Refusal),
 }
 
 // The good lines that a text begins with, and where they end.
-#[derive(Drop)]
+#[derive(Clone, Copy)]
 struct Front {
     lines: usize,
     end: usize,
@@ -29,6 +31,7 @@ struct Front {
 const WORDS: usize = 4096;
 
 // How many bytes the listing has.
+#[tactic(auto, unfolding(crate::specs::Listing::listing_of))]
 fn size(program: &[u16]) -> usize
     requires { length program.now ≡ 4096 }
     ensures { result ≡ length (listing_of program.now) }
@@ -43,6 +46,7 @@ fn size(program: &[u16]) -> usize
 }
 
 // The listing, at the front of a room.
+#[tactic(auto, unfolding(crate::specs::Listing::listing_of))]
 fn fill(program: &[u16], room: &mut [u8])
     requires { length program.now ≡ 4096 }
     ensures { room.new ≡ laid_of room.old 0 (listing_of program.now) }
@@ -71,6 +75,7 @@ pub fn write(program: &[u16], room: &mut [u8]) -> Written
 }
 
 // The good lines that a text begins with: how many, where they end, and their words.
+#[tactic(auto, unfolding(crate::specs::Listing::listing_of, crate::specs::Listing::good_lines))]
 fn good_lines(text: &[u8], words: &mut [u16]) -> Front
     requires { length words.old ≡ 4096 }
     ensures { ((result.lines ≡ length (good_lines text.now)) × (result.end ≡ length (listing_of (good_lines text.now)))) × (words.new ≡ laid_of words.old 0 (good_lines text.now)) }

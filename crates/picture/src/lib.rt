@@ -1,4 +1,6 @@
 // The picture: one byte, 0 or 1, for each element of a wiring.
+#![tactic(auto)]
+
 ghost use Rattle.std.specs.Prelude.{◌≡◌, ◌*◌, ◌+◌, ◌<◌, length};
 ghost use Rattle.sh_state.specs.State.{state};
 ghost use Rattle.lent.specs.Outcome.{outcome};
@@ -14,13 +16,14 @@ const LCD: u16 = 0x007;
 
 const STOP: u8 = 2;
 
-#[derive(Drop)]
+#[derive(Clone, Copy)]
 pub enum Drawn {
     Elements(usize),
     Refused(Refusal),
 }
 
 // A bit of a cell.
+#[tactic(auto, unfolding(crate::specs::Picture::bit_of))]
 fn bit(v: u8, b: u8) -> u8
     ensures { result ≡ bit_of v b }
 {
@@ -31,6 +34,7 @@ fn bit(v: u8, b: u8) -> u8
 }
 
 // Whether the display shows: LCDON is 1, and the machine is not in STOP.
+#[tactic(auto, unfolding(crate::specs::Picture::lit_of))]
 fn lit(m: Machine, memory: &[u8]) -> bool
     ensures { result ≡ lit_of (state m memory.now) }
 {
@@ -41,6 +45,7 @@ fn lit(m: Machine, memory: &[u8]) -> bool
 }
 
 // What the memory holds for an element.
+#[tactic(auto, unfolding(crate::specs::Picture::shown_at))]
 fn shown(memory: &[u8], wiring: &[u8], k: usize) -> u8
     requires { 3 * k + 2 < length wiring.now }
     ensures { result ≡ shown_at memory.now wiring.now k }
@@ -50,6 +55,7 @@ fn shown(memory: &[u8], wiring: &[u8], k: usize) -> u8
     bit(map::cell(memory, a), b)
 }
 
+#[tactic(auto, unfolding(crate::specs::Picture::element_of))]
 fn element(lit: bool, memory: &[u8], wiring: &[u8], k: usize) -> u8
     requires { 3 * k + 2 < length wiring.now }
     ensures { result ≡ element_of lit memory.now wiring.now k }
@@ -77,6 +83,7 @@ fn draw(lit: bool, memory: &[u8], wiring: &[u8], room: &mut [u8]) -> Drawn
 }
 
 // The picture of a machine's display by a wiring, or why it is not drawn; what lies beyond it in the room stays.
+#[tactic(auto, unfolding(crate::specs::Picture::picture_of, crate::specs::Picture::drawn_of))]
 pub fn picture(m: Machine, memory: &[u8], wiring: &[u8], room: &mut [u8]) -> Drawn
     ensures { outcome result room.new ≡ picture_of (state m memory.now) wiring.now room.old }
 {

@@ -1,8 +1,10 @@
 // Why a call is turned down: one variant for each line of the table of 01, "What comes back when a call is turned down", and for 02's, with its number and what goes with it.
+#![tactic(auto)]
+
 ghost use Rattle.std.specs.Prelude.{◌≡◌};
 ghost use Rattle.refusal.specs.Refusal.{number_of, value_of};
 
-#[derive(Drop)]
+#[derive(Clone, Copy)]
 pub enum Refusal {
     ProgramLength(u64),
     MemoryLength(u64),

@@ -1,4 +1,6 @@
 // The base timer: eight bits that count base pulses through a prescaler.
+#![tactic(auto)]
+
 ghost use Rattle.std.specs.Prelude.{◌≡◌};
 ghost use Rattle.sh_state.specs.Record.{set_base_prescaler, set_base_counter};
 ghost use Rattle.sh_timers.specs.Request.{moved};
@@ -7,6 +9,7 @@ ghost use Rattle.sh_base_timer.specs.BaseTimer.{base_counted_of, base_prescaled_
 use sh_state::machine::Machine;
 use sh_timers::request::Moved;
 
+#[tactic(auto, unfolding(sh_state::specs::Record::set_base_counter))]
 fn count_to(m: Machine, v: u8, bits: u8) -> Moved
     ensures { result ≡ moved (set_base_counter m v) bits }
 {
@@ -18,6 +21,7 @@ fn count_to(m: Machine, v: u8, bits: u8) -> Moved
     }
 }
 
+#[tactic(auto, unfolding(crate::specs::BaseTimer::base_counted_of))]
 fn counted(m: Machine) -> Moved
     ensures { result ≡ base_counted_of m }
 {
@@ -27,6 +31,7 @@ fn counted(m: Machine) -> Moved
     count_to(m, 0, 2)
 }
 
+#[tactic(auto, unfolding(sh_state::specs::Record::set_base_prescaler))]
 fn with_prescaler(m: Machine, v: u8) -> Machine
     ensures { result ≡ set_base_prescaler m v }
 {
@@ -50,6 +55,7 @@ fn restarted(m: Machine) -> Moved
     counted(with_prescaler(m, 0))
 }
 
+#[tactic(auto, unfolding(crate::specs::BaseTimer::base_prescaled_by))]
 fn prescaled_by(m: Machine, ratio: u8) -> Moved
     ensures { result ≡ base_prescaled_by m ratio }
 {
@@ -60,6 +66,7 @@ fn prescaled_by(m: Machine, ratio: u8) -> Moved
     restarted(m)
 }
 
+#[tactic(auto, unfolding(crate::specs::BaseTimer::base_prescaled_of))]
 fn prescaled(m: Machine, mode: u8) -> Moved
     ensures { result ≡ base_prescaled_of m mode }
 {
@@ -67,6 +74,7 @@ fn prescaled(m: Machine, mode: u8) -> Moved
 }
 
 // A base pulse, by the mode in $003.
+#[tactic(auto, unfolding(crate::specs::BaseTimer::base_pulsed_of))]
 pub fn pulsed(m: Machine, mode: u8) -> Moved
     ensures { result ≡ base_pulsed_of m mode }
 {

@@ -1,4 +1,6 @@
 // What an address means, and what a cell reads as.
+#![tactic(auto)]
+
 ghost use Rattle.std.specs.Prelude.{◌≡◌};
 ghost use Rattle.lent.specs.Lent.{at};
 ghost use Rattle.sh_halves.specs.Halves.{released_of, frozen_of};
@@ -11,13 +13,14 @@ use sh_map::map::Kind;
 use sh_state::machine::Machine;
 
 // A cell's value, and the record after it was read, as the definitions put them together.
-#[derive(Drop)]
+#[derive(Clone, Copy)]
 pub struct Reading {
     pub value: u8,
     pub machine: Machine,
 }
 
 // The cell that DPH, DPM and DPL point at.
+#[tactic(auto, unfolding(crate::specs::Cells::pointed_of))]
 fn pointed(memory: &[u8]) -> u16
     ensures { result ≡ pointed_of memory.now }
 {
@@ -27,6 +30,7 @@ fn pointed(memory: &[u8]) -> u16
 }
 
 // The cell that an address means: $00F means the one pointed at.
+#[tactic(auto, unfolding(crate::specs::Cells::target_of))]
 pub fn target(memory: &[u8], a: u16) -> u16
     ensures { result ≡ target_of memory.now a }
 {
@@ -37,6 +41,7 @@ pub fn target(memory: &[u8], a: u16) -> u16
 }
 
 // A port's nibble: the pin where the control bit is 0, the latch where it is 1.
+#[tactic(auto, unfolding(crate::specs::Cells::port_of))]
 pub fn port(pin: u8, latch: u8, control: u8) -> u8
     ensures { result ≡ port_of pin latch control }
 {
@@ -50,6 +55,7 @@ pub fn port_cell(pin: u8, memory: &[u8], latch: u16, control: u16) -> u8
     port(pin, map::cell(memory, latch), map::cell(memory, control))
 }
 
+#[tactic(auto, unfolding(crate::specs::Cells::plain_in))]
 fn plain_in(k: Kind, memory: &[u8], a: u16) -> u8
     ensures { result ≡ plain_in k memory.now a }
 {
@@ -63,6 +69,7 @@ fn plain_in(k: Kind, memory: &[u8], a: u16) -> u8
     }
 }
 
+#[tactic(auto, unfolding(crate::specs::Cells::plain_of))]
 fn plain(memory: &[u8], a: u16) -> u8
     ensures { result ≡ plain_of memory.now a }
 {
@@ -70,6 +77,7 @@ fn plain(memory: &[u8], a: u16) -> u8
 }
 
 // What a cell reads as.
+#[tactic(auto, unfolding(crate::specs::Cells::value_of))]
 pub fn value(m: Machine, memory: &[u8], a: u16) -> u8
     ensures { result ≡ value_of (state m memory.now) a }
 {
@@ -95,6 +103,7 @@ pub fn value(m: Machine, memory: &[u8], a: u16) -> u8
 }
 
 // The watchdog started anew, at the period that its control chooses.
+#[tactic(auto, unfolding(crate::specs::Cells::restarted_of, sh_state::specs::Record::set_watchdog))]
 pub fn restarted(m: Machine, control: u8) -> Machine
     ensures { result ≡ restarted_of m control }
 {
@@ -109,6 +118,7 @@ fn restarted_as_held(m: Machine, memory: &[u8]) -> Machine
     restarted(m, map::cell(memory, 0x1E))
 }
 
+#[tactic(auto, unfolding(sh_state::specs::Record::set_frozen))]
 fn released(m: Machine) -> Machine
     ensures { result ≡ set_frozen m released_of }
 {
@@ -117,6 +127,7 @@ fn released(m: Machine) -> Machine
     n
 }
 
+#[tactic(auto, unfolding(sh_state::specs::Record::set_frozen))]
 fn frozen(m: Machine) -> Machine
     ensures { result ≡ set_frozen m (frozen_of m.counter) }
 {
@@ -126,6 +137,7 @@ fn frozen(m: Machine) -> Machine
 }
 
 // What reading a cell does to the record: $004 releases Timer0's frozen nibble, $005 freezes one, $01E restarts the watchdog.
+#[tactic(auto, unfolding(crate::specs::Cells::seen_of))]
 pub fn seen(m: Machine, memory: &[u8], a: u16) -> Machine
     ensures { result ≡ seen_of (state m memory.now) a }
 {

@@ -1,4 +1,6 @@
 // One word on PC, AC and CY, where it touches no cell but data, display and scan.
+#![tactic(auto)]
+
 ghost use Rattle.std.specs.Prelude.{◌%◌, ◌<◌, ◌≤◌, ◌≡◌, eqb};
 ghost use Rattle.lent.specs.Lent.{pick};
 ghost use Rattle.word.specs.Word.{decode_of};
@@ -12,7 +14,7 @@ use sh_map::map;
 use word::{Condition, Operation};
 
 // PC, AC and CY, and whether the word went: where not, nothing has moved.
-#[derive(Drop)]
+#[derive(Clone, Copy)]
 pub struct Core {
     pub pc: u16,
     pub ac: u8,
@@ -20,6 +22,7 @@ pub struct Core {
     pub went: bool,
 }
 
+#[tactic(auto, unfolding(crate::specs::Quick::stays_of))]
 pub fn stays(c: Core) -> Core
     ensures { result ≡ stays_of c }
 {
@@ -31,6 +34,7 @@ pub fn stays(c: Core) -> Core
     }
 }
 
+#[tactic(auto, unfolding(crate::specs::Quick::got_of))]
 pub fn got(c: Core, r: Sum) -> Core
     ensures { result ≡ got_of c r }
 {
@@ -42,6 +46,7 @@ pub fn got(c: Core, r: Sum) -> Core
     }
 }
 
+#[tactic(auto, unfolding(crate::specs::Quick::gone_of))]
 pub fn gone(c: Core, pc: u16) -> Core
     ensures { result ≡ gone_of c pc }
 {
@@ -53,6 +58,7 @@ pub fn gone(c: Core, pc: u16) -> Core
     }
 }
 
+#[tactic(auto, unfolding(crate::specs::Quick::put_of))]
 pub fn put(c: Core, memory: &mut [u8], a: u16, r: Sum) -> Core
     ensures { quickly result memory.new ≡ put_of c memory.old a r }
 {
@@ -61,12 +67,14 @@ pub fn put(c: Core, memory: &mut [u8], a: u16, r: Sum) -> Core
     got(c, r)
 }
 
+#[tactic(auto, unfolding(crate::specs::Quick::only_of))]
 fn only(c: Core, memory: &[u8], a: u16, o: Operation, y: u8) -> Core
     ensures { result ≡ only_of c memory.now a o y }
 {
     got(c, alu::calculated(o, map::cell(memory, a), y, c.cy))
 }
 
+#[tactic(auto, unfolding(crate::specs::Quick::both_of))]
 fn both(c: Core, memory: &mut [u8], a: u16, o: Operation, y: u8) -> Core
     ensures { quickly result memory.new ≡ both_of c memory.old a o y }
 {
@@ -74,18 +82,21 @@ fn both(c: Core, memory: &mut [u8], a: u16, o: Operation, y: u8) -> Core
     put(c, memory, a, alu::calculated(o, x, y, c.cy))
 }
 
+#[tactic(auto, unfolding(crate::specs::Quick::cell_of))]
 fn lda(c: Core, memory: &[u8], a: u16) -> Core
     ensures { result ≡ cell_of c memory.now a }
 {
     got(c, alu::loaded(map::cell(memory, a), c.cy))
 }
 
+#[tactic(auto, unfolding(crate::specs::Quick::stored_of))]
 fn sta(c: Core, memory: &mut [u8], a: u16, y: u8) -> Core
     ensures { quickly result memory.new ≡ stored_of c memory.old a y }
 {
     put(c, memory, a, alu::loaded(y, c.cy))
 }
 
+#[tactic(auto, unfolding(word::specs::Codes::operation_of))]
 fn with_ac(c: Core, memory: &mut [u8], w: u16, a: u16) -> Core
     requires { w < 0x4000 }
     ensures { quickly result memory.new ≡ word_on_of c memory.old a (decode_of w) }
@@ -111,6 +122,7 @@ fn with_ac(c: Core, memory: &mut [u8], w: u16, a: u16) -> Core
     }
 }
 
+#[tactic(auto, unfolding(word::specs::Codes::immediate_of, crate::specs::Quick::immediate_on_of))]
 fn with_immediate(c: Core, memory: &mut [u8], w: u16, a: u16) -> Core
     requires { (0x4000 ≤ w) × (w < 0x8000) }
     ensures { quickly result memory.new ≡ word_on_of c memory.old a (decode_of w) }
@@ -129,6 +141,7 @@ fn with_immediate(c: Core, memory: &mut [u8], w: u16, a: u16) -> Core
     }
 }
 
+#[tactic(auto, unfolding(crate::specs::Quick::cell_word_of))]
 fn accumulator(c: Core, memory: &mut [u8], w: u16) -> Core
     requires { w < 0x4000 }
     ensures { quickly result memory.new ≡ cell_word_of c memory.old w (target_of memory.old (w % 1024)) }
@@ -140,6 +153,7 @@ fn accumulator(c: Core, memory: &mut [u8], w: u16) -> Core
     stays(c)
 }
 
+#[tactic(auto, unfolding(crate::specs::Quick::cell_word_of))]
 fn immediate(c: Core, memory: &mut [u8], w: u16) -> Core
     requires { (0x4000 ≤ w) × (w < 0x8000) }
     ensures { quickly result memory.new ≡ cell_word_of c memory.old w (target_of memory.old (w % 128)) }
@@ -151,6 +165,7 @@ fn immediate(c: Core, memory: &mut [u8], w: u16) -> Core
     stays(c)
 }
 
+#[tactic(auto, unfolding(crate::specs::Quick::branched_of))]
 fn branch(c: Core, k: Condition, w: u16) -> Core
     ensures { result ≡ branched_of c k (w % 2048) }
 {
@@ -178,6 +193,7 @@ fn nop(c: Core, w: u16) -> Core
     stays(c)
 }
 
+#[tactic(auto, unfolding(word::specs::Codes::condition_of))]
 fn others(c: Core, w: u16) -> Core
     requires { 0x8000 ≤ w }
     ensures { result ≡ other_word_of c (decode_of w) }
@@ -200,6 +216,7 @@ fn others(c: Core, w: u16) -> Core
 }
 
 // One word, where it only touches plain cells, PC, AC and CY.
+#[tactic(auto, unfolding(crate::specs::Quick::quick_of))]
 pub fn quick(c: Core, memory: &mut [u8], w: u16) -> Core
     ensures { quickly result memory.new ≡ quick_of c memory.old w }
 {

@@ -13,7 +13,7 @@ use sh_timers::{request, timer0};
 use word::{Decoded, Instruction};
 
 // What a cycle did before (d) and (e), and whether it ends in them.
-#[derive(Drop)]
+#[derive(Clone, Copy)]
 pub struct Acted {
     pub stuck: bool,
     pub ends: bool,
@@ -21,12 +21,13 @@ pub struct Acted {
 }
 
 // An event's outcome: stuck before an unlisted word with nothing changed, or done.
-#[derive(Drop)]
+#[derive(Clone, Copy)]
 pub struct Outcome {
     pub stuck: bool,
     pub machine: Machine,
 }
 
+#[tactic(auto, unfolding(crate::specs::Cycle::read_taken_of, sh_state::specs::Record::set_pending))]
 fn read_taken(m: Machine) -> Machine
     ensures { result ≡ read_taken_of m }
 {
@@ -36,6 +37,7 @@ fn read_taken(m: Machine) -> Machine
     n
 }
 
+#[tactic(auto, unfolding(crate::specs::Cycle::woken_of, crate::specs::Cycle::read_taken_of, sh_state::specs::Record::set_pending, sh_state::specs::Record::set_mode))]
 fn woken(m: Machine) -> Machine
     ensures { result ≡ woken_of m }
 {
@@ -60,6 +62,7 @@ fn high_in(memory: &mut [u8], w: u16)
     map::store(memory, 0x1D, (w / 4096 % 16) as u8);
 }
 
+#[tactic(auto, unfolding(crate::specs::Cycle::word_in_of))]
 fn word_in(memory: &mut [u8], w: u16)
     ensures { memory.new ≡ word_in_of memory.old w }
 {
@@ -75,6 +78,7 @@ fn word_from(program: &[u16], a: u16, memory: &mut [u8])
 }
 
 // (d)
+#[tactic(auto, unfolding(crate::specs::Read::landed_by))]
 fn landed(program: &[u16], pending: u8, address: u16, memory: &mut [u8])
     ensures { memory.new ≡ landed_by program.now pending address memory.old }
 {
@@ -93,6 +97,7 @@ fn clock(m: Machine, memory: &mut [u8]) -> Machine
 }
 
 // (d) and (e): the pending read of before, and the machine after
+#[tactic(auto, unfolding(crate::specs::Read::finished_by))]
 fn finished(program: &[u16], pending: u8, address: u16, m: Machine, memory: &mut [u8]) -> Machine
     ensures { state result memory.new ≡ finished_by program.now pending address (state m memory.old) }
 {
@@ -124,6 +129,7 @@ fn executed(m: Machine, memory: &mut [u8], i: Instruction) -> Machine
     sh_execute::execute(woken(m), memory, i)
 }
 
+#[tactic(auto, unfolding(crate::specs::Cycle::instructed_of, crate::specs::Read::ended_by))]
 fn instructed(m: Machine, memory: &mut [u8], d: Decoded) -> Acted
     ensures { (p : List ℕ) → ended_by p m.pending m.address result.ends result.stuck (state result.machine memory.new) ≡ instructed_of p (state m memory.old) d }
 {
@@ -159,6 +165,7 @@ fn interrupt_cycle(m: Machine, memory: &mut [u8], due: u8) -> Acted
     }
 }
 
+#[tactic(auto, unfolding(crate::specs::Cycle::awake_cycle_of))]
 fn awake_cycle(program: &[u16], m: Machine, memory: &mut [u8], due: u8) -> Acted
     ensures { ended_by program.now m.pending m.address result.ends result.stuck (state result.machine memory.new) ≡ awake_cycle_of program.now (state m memory.old) due }
 {
@@ -185,6 +192,7 @@ fn asleep_cycle(m: Machine) -> Acted
     }
 }
 
+#[tactic(auto, unfolding(crate::specs::Cycle::cycle_due_of))]
 fn cycle_due(program: &[u16], m: Machine, memory: &mut [u8], due: u8) -> Acted
     ensures { ended_by program.now m.pending m.address result.ends result.stuck (state result.machine memory.new) ≡ cycle_due_of program.now (state m memory.old) due }
 {
@@ -195,6 +203,7 @@ fn cycle_due(program: &[u16], m: Machine, memory: &mut [u8], due: u8) -> Acted
 }
 
 // One cycle.
+#[tactic(auto, unfolding(crate::specs::Cycle::cycle_of))]
 pub fn cycle(program: &[u16], m: Machine, memory: &mut [u8]) -> Outcome
     ensures { happened result.stuck (state result.machine memory.new) ≡ cycle_of program.now (state m memory.old) }
 {

@@ -1,2 +1,4 @@
 // The cycle of the machine.
+#![tactic(auto)]
+
 pub mod cycle;

@@ -1,4 +1,6 @@
 // Edges of a port's pins.
+#![tactic(auto)]
+
 ghost use Rattle.std.specs.Prelude.{◌≡◌};
 ghost use Rattle.sh_edges.specs.Edges.{edges_of};
 

@@ -20,7 +20,7 @@ use Rattle.sh_watchdog.proofs.Kept.{counted_down_keeps}
 use Rattle.sh_reset.proofs.Kept.{reset_keeps}
 use Rattle.sh_sound.proofs.Kept.{sound_keeps}
 use Rattle.sh_cycle.specs.Cycle.{Happened}
-use Rattle.sh_events.specs.Ports.{external_of, falling_of, port_aof, port_request_of, port_edges_of, port_bof, port_cof}
+use Rattle.sh_events.specs.Ports.{external_of, falling_of, port_a_of, port_request_of, port_edges_of, port_b_of, port_c_of}
 use Rattle.sh_events.specs.Event.{base_pulse_of, watchdog_pulse_of, pins_of, other_of, event_of}
 use Rattle.sh_cycle.proofs.Keeps.{moved_keeps, cycle_keeps}
 
@@ -63,19 +63,19 @@ module _ {s : State} (f : Fit s) where
   pin_d_keeps : (v : ℕ) → v < 16 → Fit (state (set_pin_d s.machine v) s.memory)
   pin_d_keeps v h = record { memory = f.memory; machine = pin_d_fits f.machine v h }
 
-  port_a_keeps : (pins : ℕ) → pins < 16 → Fit (port_aof s pins)
-  unfolding port_aof
+  port_a_keeps : (pins : ℕ) → pins < 16 → Fit (port_a_of s pins)
+  unfolding port_a_of
   port_a_keeps pins h =
       let l = s.memory in
       let g = requested_keeps (pin_a_keeps pins h) (external_of s pins) (external_small s pins) in
       moved_keeps (rw (mode_stays l (external_of s pins)) at (fallen_keeps g (falling_of s pins)))
 
-  port_b_keeps : (pins : ℕ) → pins < 16 → Fit (port_bof s pins)
-  unfolding port_bof
+  port_b_keeps : (pins : ℕ) → pins < 16 → Fit (port_b_of s pins)
+  unfolding port_b_of
   port_b_keeps pins h = requested_keeps (pin_b_keeps pins h) _ (port_edges_small _ _ _ _)
 
-  port_c_keeps : (pins : ℕ) → pins < 16 → Fit (port_cof s pins)
-  unfolding port_cof
+  port_c_keeps : (pins : ℕ) → pins < 16 → Fit (port_c_of s pins)
+  unfolding port_c_of
   port_c_keeps pins h = requested_keeps (pin_c_keeps pins h) _ (port_edges_small _ _ _ _)
 
   pins_keep : (e : ℕ) → Fit (pins_of s e)

@@ -9,7 +9,7 @@ use Rattle.sh_sound.specs.Sound.{sound_of}
 use Rattle.sh_reset.specs.Reset.{reset_of}
 use Rattle.sh_reset.specs.declared.reset.Column.TheVariants.{Pin, Watchdog}
 use Rattle.sh_cycle.specs.Cycle.{Happened, happened, moved_of, cycle_of}
-use Rattle.sh_events.specs.Ports.{port_aof, port_bof, port_cof}
+use Rattle.sh_events.specs.Ports.{port_a_of, port_b_of, port_c_of}
 
 -- $01
 unfoldable pub base_pulse_of : State → State
@@ -22,9 +22,9 @@ watchdog_pulse_of s = pick (expires_of s.machine) (reset_of Watchdog s) (state (
 -- $10-$1F, $20-$2F, $30-$3F, $40-$4F: the pins of a port become the low nibble
 unfoldable pub pins_of : State → ℕ → State
 pins_of s e =
-    pick (eqb (e / 16) 1) (port_aof s (e % 16))
-    (pick (eqb (e / 16) 2) (port_bof s (e % 16))
-    (pick (eqb (e / 16) 3) (port_cof s (e % 16))
+    pick (eqb (e / 16) 1) (port_a_of s (e % 16))
+    (pick (eqb (e / 16) 2) (port_b_of s (e % 16))
+    (pick (eqb (e / 16) 3) (port_c_of s (e % 16))
     (pick (eqb (e / 16) 4) (state (set_pin_d s.machine (e % 16)) s.memory) s)))
 
 -- every event but the cycle; a byte that is no event leaves the state

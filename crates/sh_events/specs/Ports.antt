@@ -17,8 +17,8 @@ unfoldable pub falling_of : State → ℕ → ℕ
 falling_of s pins = edges_of s.machine.pina pins (at s.memory 0x16) 0 % 2
 
 -- port A: the external request, and Timer0 may count the falling edge
-unfoldable pub port_aof : State → ℕ → State
-port_aof s pins =
+unfoldable pub port_a_of : State → ℕ → State
+port_a_of s pins =
     moved_of (requested_of s.memory (external_of s pins))
     (fallen_of (set_pin_a s.machine pins) (at s.memory 0x02) (falling_of s pins))
 
@@ -30,10 +30,10 @@ port_request_of edges = pick (eqb edges 0) 0 1
 unfoldable pub port_edges_of : List ℕ → ℕ → ℕ → ℕ → ℕ
 port_edges_of l old pins control = port_request_of (edges_of old pins (at l control) (at l 0x13 / 2 % 2))
 
-unfoldable pub port_bof : State → ℕ → State
-port_bof s pins =
+unfoldable pub port_b_of : State → ℕ → State
+port_b_of s pins =
     state (set_pin_b s.machine pins) (requested_of s.memory (port_edges_of s.memory s.machine.pinb pins 0x17))
 
-unfoldable pub port_cof : State → ℕ → State
-port_cof s pins =
+unfoldable pub port_c_of : State → ℕ → State
+port_c_of s pins =
     state (set_pin_c s.machine pins) (requested_of s.memory (port_edges_of s.memory s.machine.pinc pins 0x18))

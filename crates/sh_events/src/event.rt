@@ -13,6 +13,7 @@ use sh_reset::reset::Column;
 use sh_state::machine::Machine;
 use sh_timers::request;
 
+#[tactic(auto, unfolding(crate::specs::Event::base_pulse_of))]
 fn base_pulse(m: Machine, memory: &mut [u8]) -> Machine
     ensures { state result memory.new ≡ base_pulse_of (state m memory.old) }
 {
@@ -21,6 +22,7 @@ fn base_pulse(m: Machine, memory: &mut [u8]) -> Machine
     v.machine
 }
 
+#[tactic(auto, unfolding(crate::specs::Event::watchdog_pulse_of))]
 fn watchdog_pulse(m: Machine, memory: &mut [u8]) -> Machine
     ensures { state result memory.new ≡ watchdog_pulse_of (state m memory.old) }
 {
@@ -30,6 +32,7 @@ fn watchdog_pulse(m: Machine, memory: &mut [u8]) -> Machine
     sh_watchdog::counted_down(m)
 }
 
+#[tactic(auto, unfolding(crate::specs::Event::pins_of))]
 fn pins(m: Machine, memory: &mut [u8], e: u8) -> Machine
     ensures { state result memory.new ≡ pins_of (state m memory.old) e }
 {
@@ -49,6 +52,7 @@ fn pins(m: Machine, memory: &mut [u8], e: u8) -> Machine
 }
 
 // An event that is no cycle.
+#[tactic(auto, unfolding(crate::specs::Event::other_of))]
 pub fn other(m: Machine, memory: &mut [u8], e: u8) -> Machine
     ensures { state result memory.new ≡ other_of (state m memory.old) e }
 {
@@ -77,6 +81,7 @@ fn no_cycle(m: Machine, memory: &mut [u8], e: u8) -> Outcome
 }
 
 // One event.
+#[tactic(auto, unfolding(crate::specs::Event::event_of))]
 pub fn event(program: &[u16], m: Machine, memory: &mut [u8], e: u8) -> Outcome
     ensures { happened result.stuck (state result.machine memory.new) ≡ event_of program.now (state m memory.old) e }
 {

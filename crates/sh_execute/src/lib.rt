@@ -1,4 +1,6 @@
 // One instruction of the SH67P54 on its machine.
+#![tactic(auto)]
+
 ghost use Rattle.std.specs.Prelude.{◌≡◌};
 ghost use Rattle.sh_state.specs.Record.{set_pc, set_ac, set_cy, set_mode};
 ghost use Rattle.sh_state.specs.State.{state};
@@ -11,6 +13,7 @@ use sh_state::machine::Machine;
 use word::{Condition, ImmediateOperation, Instruction, Operation};
 
 // PC+1 within 11 bits.
+#[tactic(auto, unfolding(crate::specs::Execute::next_of))]
 pub fn next(pc: u16) -> u16
     ensures { result ≡ next_of pc }
 {
@@ -18,12 +21,14 @@ pub fn next(pc: u16) -> u16
 }
 
 // A target within PC11's half.
+#[tactic(auto, unfolding(crate::specs::Execute::within_of))]
 pub fn within(pc: u16, t: u16) -> u16
     ensures { result ≡ within_of pc t }
 {
     pc / 2048 * 2048 + t % 2048
 }
 
+#[tactic(auto, unfolding(sh_state::specs::Record::set_ac, sh_state::specs::Record::set_cy))]
 fn with_ac_cy(m: Machine, ac: u8, cy: u8) -> Machine
     ensures { result ≡ set_cy (set_ac m ac) cy }
 {
@@ -33,6 +38,7 @@ fn with_ac_cy(m: Machine, ac: u8, cy: u8) -> Machine
     n
 }
 
+#[tactic(auto, unfolding(crate::specs::Execute::onward_of))]
 fn onward(m: Machine) -> Machine
     ensures { result ≡ onward_of m }
 {
@@ -40,6 +46,7 @@ fn onward(m: Machine) -> Machine
 }
 
 // AC and CY take a result, and PC goes on.
+#[tactic(auto, unfolding(crate::specs::Execute::took_of))]
 fn took(m: Machine, r: Sum) -> Machine
     ensures { result ≡ took_of m r }
 {
@@ -47,12 +54,14 @@ fn took(m: Machine, r: Sum) -> Machine
 }
 
 // A result taken by AC and CY and written to a cell too.
+#[tactic(auto, unfolding(crate::specs::Execute::put_of))]
 fn put(m: Machine, memory: &mut [u8], a: u16, r: Sum) -> Machine
     ensures { state result memory.new ≡ put_of (state m memory.old) a r }
 {
     sh_writes::write(took(m, r), memory, a, r.value)
 }
 
+#[tactic(auto, unfolding(crate::specs::Execute::accumulated_of, sh_cells::specs::Cells::read_of))]
 fn accumulated(m: Machine, memory: &[u8], o: Operation, operand: u8, a: u16) -> Machine
     ensures { result ≡ accumulated_of (state m memory.now) o operand a }
 {
@@ -61,6 +70,7 @@ fn accumulated(m: Machine, memory: &[u8], o: Operation, operand: u8, a: u16) -> 
     took(n, alu::calculated(o, v, operand, m.cy))
 }
 
+#[tactic(auto, unfolding(crate::specs::Execute::stored_of, sh_cells::specs::Cells::read_of))]
 fn stored(m: Machine, memory: &mut [u8], o: Operation, operand: u8, a: u16) -> Machine
     ensures { state result memory.new ≡ stored_of (state m memory.old) o operand a }
 {
@@ -69,6 +79,7 @@ fn stored(m: Machine, memory: &mut [u8], o: Operation, operand: u8, a: u16) -> M
     put(n, memory, a, alu::calculated(o, v, operand, m.cy))
 }
 
+#[tactic(auto, unfolding(crate::specs::Execute::load_of, sh_cells::specs::Cells::read_of))]
 fn load(m: Machine, memory: &[u8], a: u16) -> Machine
     ensures { result ≡ load_of (state m memory.now) a }
 {
@@ -77,12 +88,14 @@ fn load(m: Machine, memory: &[u8], a: u16) -> Machine
     took(n, alu::loaded(v, m.cy))
 }
 
+#[tactic(auto, unfolding(crate::specs::Execute::accumulator_form_of))]
 fn accumulator_form(m: Machine, memory: &[u8], o: Operation, x: u16) -> Machine
     ensures { state result memory.now ≡ accumulator_form_of (state m memory.now) o x }
 {
     accumulated(m, memory, o, m.ac, sh_cells::target(memory, x))
 }
 
+#[tactic(auto, unfolding(crate::specs::Execute::memory_form_of))]
 fn memory_form(m: Machine, memory: &mut [u8], o: Operation, x: u16) -> Machine
     ensures { state result memory.new ≡ memory_form_of (state m memory.old) o x }
 {
@@ -90,12 +103,14 @@ fn memory_form(m: Machine, memory: &mut [u8], o: Operation, x: u16) -> Machine
     stored(m, memory, o, m.ac, a)
 }
 
+#[tactic(auto, unfolding(crate::specs::Execute::lda_of))]
 fn lda(m: Machine, memory: &[u8], x: u16) -> Machine
     ensures { state result memory.now ≡ lda_of (state m memory.now) x }
 {
     load(m, memory, sh_cells::target(memory, x))
 }
 
+#[tactic(auto, unfolding(crate::specs::Execute::sta_of))]
 fn sta(m: Machine, memory: &mut [u8], x: u16) -> Machine
     ensures { state result memory.new ≡ sta_of (state m memory.old) x }
 {
@@ -103,6 +118,7 @@ fn sta(m: Machine, memory: &mut [u8], x: u16) -> Machine
     put(m, memory, a, alu::loaded(m.ac, m.cy))
 }
 
+#[tactic(auto, unfolding(crate::specs::Execute::ldi_of))]
 fn ldi(m: Machine, memory: &mut [u8], x: u16, i: u8) -> Machine
     ensures { state result memory.new ≡ ldi_of (state m memory.old) x i }
 {
@@ -110,12 +126,14 @@ fn ldi(m: Machine, memory: &mut [u8], x: u16, i: u8) -> Machine
     put(m, memory, a, alu::loaded(i, m.cy))
 }
 
+#[tactic(auto, unfolding(crate::specs::Execute::with_immediate_of))]
 fn with_immediate(m: Machine, memory: &[u8], o: Operation, x: u16, i: u8) -> Machine
     ensures { state result memory.now ≡ with_immediate_of (state m memory.now) o x i }
 {
     accumulated(m, memory, o, i, sh_cells::target(memory, x))
 }
 
+#[tactic(auto, unfolding(crate::specs::Execute::stored_immediate_of))]
 fn stored_immediate(m: Machine, memory: &mut [u8], o: Operation, x: u16, i: u8) -> Machine
     ensures { state result memory.new ≡ stored_immediate_of (state m memory.old) o x i }
 {
@@ -123,6 +141,7 @@ fn stored_immediate(m: Machine, memory: &mut [u8], o: Operation, x: u16, i: u8) 
     stored(m, memory, o, i, a)
 }
 
+#[tactic(auto, unfolding(crate::specs::Execute::immediate_form_of))]
 fn immediate_form(m: Machine, memory: &mut [u8], o: ImmediateOperation, x: u16, i: u8) -> Machine
     ensures { state result memory.new ≡ immediate_form_of (state m memory.old) o x i }
 {
@@ -137,6 +156,7 @@ fn immediate_form(m: Machine, memory: &mut [u8], o: ImmediateOperation, x: u16, 
     }
 }
 
+#[tactic(auto, unfolding(crate::specs::Execute::daa_of, sh_cells::specs::Cells::read_of))]
 fn daa(m: Machine, memory: &mut [u8], x: u16) -> Machine
     ensures { state result memory.new ≡ daa_of (state m memory.old) x }
 {
@@ -146,6 +166,7 @@ fn daa(m: Machine, memory: &mut [u8], x: u16) -> Machine
     put(n, memory, a, alu::decimal_added(v, m.cy))
 }
 
+#[tactic(auto, unfolding(crate::specs::Execute::das_of, sh_cells::specs::Cells::read_of))]
 fn das(m: Machine, memory: &mut [u8], x: u16) -> Machine
     ensures { state result memory.new ≡ das_of (state m memory.old) x }
 {
@@ -155,6 +176,7 @@ fn das(m: Machine, memory: &mut [u8], x: u16) -> Machine
     put(n, memory, a, alu::decimal_subtracted(v, m.cy))
 }
 
+#[tactic(auto, unfolding(crate::specs::Execute::taken_of))]
 pub fn taken(c: Condition, ac: u8, cy: u8) -> bool
     ensures { result ≡ taken_of c ac cy }
 {
@@ -176,6 +198,7 @@ fn gone(m: Machine, t: u16) -> Machine
     machine::with_pc(m, within(m.pc, t))
 }
 
+#[tactic(auto, unfolding(crate::specs::Execute::branch_if_of))]
 fn branch_if(m: Machine, yes: bool, t: u16) -> Machine
     ensures { result ≡ branch_if_of m yes t }
 {
@@ -185,18 +208,21 @@ fn branch_if(m: Machine, yes: bool, t: u16) -> Machine
     onward(m)
 }
 
+#[tactic(auto, unfolding(crate::specs::Execute::branch_of))]
 fn branch(m: Machine, c: Condition, t: u16) -> Machine
     ensures { result ≡ branch_of m c t }
 {
     branch_if(m, taken(c, m.ac, m.cy), t)
 }
 
+#[tactic(auto, unfolding(crate::specs::Execute::call_of))]
 fn call(m: Machine, t: u16) -> Machine
     ensures { result ≡ call_of m t }
 {
     machine::with_pc(m.push(machine::entry(m.cy, next(m.pc))), within(m.pc, t))
 }
 
+#[tactic(auto, unfolding(sh_state::specs::Record::set_ac))]
 fn with_ac(m: Machine, ac: u8) -> Machine
     ensures { result ≡ set_ac m ac }
 {
@@ -205,6 +231,7 @@ fn with_ac(m: Machine, ac: u8) -> Machine
     n
 }
 
+#[tactic(auto, unfolding(crate::specs::Execute::rtnw_of))]
 fn rtnw(m: Machine, memory: &mut [u8], h: u8, l: u8) -> Machine
     ensures { state result memory.new ≡ rtnw_of (state m memory.old) h l }
 {
@@ -212,6 +239,7 @@ fn rtnw(m: Machine, memory: &mut [u8], h: u8, l: u8) -> Machine
     machine::with_pc(with_ac(m.pop(), l), m.newest() % 4096)
 }
 
+#[tactic(auto, unfolding(sh_state::specs::Record::set_cy))]
 fn with_cy(m: Machine, cy: u8) -> Machine
     ensures { result ≡ set_cy m cy }
 {
@@ -220,6 +248,7 @@ fn with_cy(m: Machine, cy: u8) -> Machine
     n
 }
 
+#[tactic(auto, unfolding(crate::specs::Execute::rtni_of))]
 fn rtni(m: Machine) -> Machine
     ensures { result ≡ rtni_of m }
 {
@@ -227,6 +256,7 @@ fn rtni(m: Machine) -> Machine
     machine::with_pc(with_cy(m.pop(), (e / 4096 % 2) as u8), e % 4096)
 }
 
+#[tactic(auto, unfolding(sh_state::specs::Record::set_mode))]
 fn with_mode(m: Machine, mode: u8) -> Machine
     ensures { result ≡ set_mode m mode }
 {
@@ -235,18 +265,21 @@ fn with_mode(m: Machine, mode: u8) -> Machine
     n
 }
 
+#[tactic(auto, unfolding(crate::specs::Execute::rest_of))]
 fn rest(m: Machine, mode: u8) -> Machine
     ensures { result ≡ rest_of m mode }
 {
     with_mode(onward(m), mode)
 }
 
+#[tactic(auto, unfolding(crate::specs::Execute::shr_of))]
 fn shr(m: Machine) -> Machine
     ensures { result ≡ shr_of m }
 {
     took(m, alu::shifted_right(m.ac))
 }
 
+#[tactic(auto, unfolding(crate::specs::Execute::tjmp_of))]
 fn tjmp(m: Machine, memory: &[u8]) -> Machine
     ensures { result ≡ tjmp_of (state m memory.now) }
 {
@@ -257,6 +290,7 @@ fn tjmp(m: Machine, memory: &[u8]) -> Machine
 }
 
 // One instruction.
+#[tactic(auto, unfolding(crate::specs::Execute::execute_of))]
 pub fn execute(m: Machine, memory: &mut [u8], i: Instruction) -> Machine
     ensures { state result memory.new ≡ execute_of (state m memory.old) i }
 {

@@ -1,4 +1,6 @@
 // Interrupts: which are due, what they wake, and what taking one does.
+#![tactic(auto)]
+
 ghost use Rattle.std.specs.Prelude.{◌≡◌};
 ghost use Rattle.sh_state.specs.State.{state};
 ghost use Rattle.sh_interrupts.specs.Interrupt.{due_of, awake_of, vector_of, entered_of, interrupted_of};
@@ -8,6 +10,7 @@ use sh_state::machine;
 use sh_state::machine::Machine;
 
 // The sources that are enabled and requested.
+#[tactic(auto, unfolding(crate::specs::Interrupt::due_of))]
 pub fn due(memory: &[u8]) -> u8
     ensures { result ≡ due_of memory.now }
 {
@@ -15,6 +18,7 @@ pub fn due(memory: &[u8]) -> u8
 }
 
 // Whether a machine in a mode runs on, by what is due.
+#[tactic(auto, unfolding(crate::specs::Interrupt::awake_of))]
 pub fn awake(mode: u8, due: u8) -> bool
     ensures { result ≡ awake_of mode due }
 {
@@ -27,6 +31,7 @@ pub fn awake(mode: u8, due: u8) -> bool
     due & 9 != 0
 }
 
+#[tactic(auto, unfolding(crate::specs::Interrupt::vector_of))]
 fn vector(due: u8) -> u16
     ensures { result ≡ vector_of due }
 {
@@ -42,6 +47,7 @@ fn vector(due: u8) -> u16
     0x004
 }
 
+#[tactic(auto, unfolding(crate::specs::Interrupt::entered_of))]
 fn entered(m: Machine, due: u8) -> Machine
     ensures { result ≡ entered_of m due }
 {
@@ -49,6 +55,7 @@ fn entered(m: Machine, due: u8) -> Machine
 }
 
 // The first due interrupt taken.
+#[tactic(auto, unfolding(crate::specs::Interrupt::interrupted_of))]
 pub fn interrupted(m: Machine, memory: &mut [u8], due: u8) -> Machine
     ensures { state result memory.new ≡ interrupted_of (state m memory.old) due }
 {

@@ -1,2 +1,4 @@
 // The SH67P54's memory map.
+#![tactic(auto)]
+
 pub mod map;

@@ -3,7 +3,7 @@ ghost use Rattle.std.specs.Prelude.{◌≡◌, set};
 ghost use Rattle.lent.specs.Lent.{at};
 ghost use Rattle.sh_map.specs.Map.{kind_of, held_in, held_of, written_in, written_of, askable_in, askable_of, display_in, display_of, register_bits, register_written};
 
-#[derive(Drop)]
+#[derive(Clone, Copy)]
 pub enum Kind {
     Register,
     Data,
@@ -38,6 +38,7 @@ pub fn store(memory: &mut [u8], a: u16, v: u8)
 }
 
 // What an address is.
+#[tactic(auto, unfolding(crate::specs::Map::kind_of))]
 pub fn kind_at(a: u16) -> Kind
     ensures { result ≡ kind_of a }
 {
@@ -68,6 +69,7 @@ pub fn kind_at(a: u16) -> Kind
     Kind::Unmapped
 }
 
+#[tactic(auto, unfolding(crate::specs::Map::register_bits))]
 fn register_bits(a: u16) -> u8
     ensures { result ≡ at register_bits a }
 {
@@ -78,6 +80,7 @@ fn register_bits(a: u16) -> u8
     0
 }
 
+#[tactic(auto, unfolding(crate::specs::Map::register_written))]
 fn register_written(a: u16) -> u8
     ensures { result ≡ at register_written a }
 {
@@ -88,6 +91,7 @@ fn register_written(a: u16) -> u8
     0
 }
 
+#[tactic(auto, unfolding(crate::specs::Map::held_in))]
 fn held_in(k: Kind, a: u16) -> u8
     ensures { result ≡ held_in k a }
 {
@@ -101,6 +105,7 @@ fn held_in(k: Kind, a: u16) -> u8
     }
 }
 
+#[tactic(auto, unfolding(crate::specs::Map::written_in))]
 fn written_in(k: Kind, a: u16) -> u8
     ensures { result ≡ written_in k a }
 {
@@ -115,6 +120,7 @@ fn written_in(k: Kind, a: u16) -> u8
 }
 
 // The bits that the cell at an address can hold.
+#[tactic(auto, unfolding(crate::specs::Map::held_of))]
 pub fn held(a: u16) -> u8
     ensures { result ≡ held_of a }
 {
@@ -122,12 +128,14 @@ pub fn held(a: u16) -> u8
 }
 
 // The bits that a write to an address stores.
+#[tactic(auto, unfolding(crate::specs::Map::written_of))]
 pub fn written(a: u16) -> u8
     ensures { result ≡ written_of a }
 {
     written_in(kind_at(a), a)
 }
 
+#[tactic(auto, unfolding(crate::specs::Map::askable_in))]
 fn askable_in(k: Kind) -> bool
     ensures { result ≡ askable_in k }
 {
@@ -142,12 +150,14 @@ fn askable_in(k: Kind) -> bool
 }
 
 // Whether an address is of data, display or scan.
+#[tactic(auto, unfolding(crate::specs::Map::askable_of))]
 pub fn askable(a: u16) -> bool
     ensures { result ≡ askable_of a }
 {
     askable_in(kind_at(a))
 }
 
+#[tactic(auto, unfolding(crate::specs::Map::display_in))]
 fn display_in(k: Kind) -> bool
     ensures { result ≡ display_in k }
 {
@@ -162,6 +172,7 @@ fn display_in(k: Kind) -> bool
 }
 
 // Whether an address is of the display.
+#[tactic(auto, unfolding(crate::specs::Map::display_of))]
 pub fn display(a: u16) -> bool
     ensures { result ≡ display_of a }
 {

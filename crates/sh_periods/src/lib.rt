@@ -1,4 +1,6 @@
 // The ratios and periods that a mode register chooses.
+#![tactic(auto)]
+
 ghost use Rattle.std.specs.Prelude.{◌≡◌};
 ghost use Rattle.sh_periods.specs.Periods.{ratio_of, base_ratio_of, period_of};
 
@@ -9,6 +11,7 @@ const BASE_RATIOS: [u8; 4] = [1, 4, 8, 16];
 const PERIODS: [u16; 8] = [4096, 1024, 256, 128, 64, 16, 4, 1];
 
 // Timer0's ratio by $002; 1 for pin counting.
+#[tactic(auto, unfolding(crate::specs::Periods::ratio_of, crate::specs::Periods::ratios))]
 pub fn ratio(mode: u8) -> u16
     ensures { result ≡ ratio_of mode }
 {
@@ -17,6 +20,7 @@ pub fn ratio(mode: u8) -> u16
 }
 
 // The base timer's ratio by $003.
+#[tactic(auto, unfolding(crate::specs::Periods::base_ratio_of, crate::specs::Periods::base_ratios))]
 pub fn base_ratio(mode: u8) -> u8
     ensures { result ≡ base_ratio_of mode }
 {
@@ -25,6 +29,7 @@ pub fn base_ratio(mode: u8) -> u8
 }
 
 // The watchdog's period by $01E.
+#[tactic(auto, unfolding(crate::specs::Periods::period_of, crate::specs::Periods::periods))]
 pub fn period(control: u8) -> u16
     ensures { result ≡ period_of control }
 {

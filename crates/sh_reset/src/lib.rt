@@ -1,2 +1,4 @@
 // Resets: by the pin and by the watchdog.
+#![tactic(auto)]
+
 pub mod reset;

@@ -10,7 +10,7 @@ use sh_map::map::Kind;
 use sh_state::machine::Machine;
 
 // The two columns of the data sheet's table 3.3.
-#[derive(Drop)]
+#[derive(Clone, Copy)]
 pub enum Column {
     Pin,
     Watchdog,
@@ -23,6 +23,7 @@ const REGISTER_STAYS: [u8; 32] = [
 
 const SOUND_STAYS: [u8; 8] = [15, 15, 15, 15, 15, 15, 15, 12];
 
+#[tactic(auto, unfolding(crate::specs::Reset::register_stays))]
 fn register_stays_by_watchdog(a: u16) -> u8
     ensures { result ≡ at (register_stays Watchdog) a }
 {
@@ -42,6 +43,7 @@ fn register_stays(column: Column, a: u16) -> u8
     }
 }
 
+#[tactic(auto, unfolding(crate::specs::Reset::sound_stays))]
 fn sound_stays_by_watchdog(a: u16) -> u8
     ensures { result ≡ at (sound_stays Watchdog) (a % 8) }
 {
@@ -58,6 +60,7 @@ fn sound_stays(column: Column, a: u16) -> u8
     }
 }
 
+#[tactic(auto, unfolding(crate::specs::Reset::stays_in))]
 fn stays_in(k: Kind, column: Column, a: u16) -> u8
     ensures { result ≡ stays_in k column a }
 {
@@ -71,6 +74,7 @@ fn stays_in(k: Kind, column: Column, a: u16) -> u8
     }
 }
 
+#[tactic(auto, unfolding(crate::specs::Reset::rises_of))]
 fn rises_by_pin(a: u16) -> u8
     ensures { result ≡ rises_of Pin a }
 {
@@ -80,6 +84,7 @@ fn rises_by_pin(a: u16) -> u8
     0
 }
 
+#[tactic(auto, unfolding(crate::specs::Reset::rises_of))]
 fn rises_by_watchdog(a: u16) -> u8
     ensures { result ≡ rises_of Watchdog a }
 {
@@ -98,6 +103,7 @@ fn rises(column: Column, a: u16) -> u8
     }
 }
 
+#[tactic(auto, unfolding(crate::specs::Reset::sets_of))]
 fn sets(column: Column, options: u8, a: u16) -> u8
     ensures { result ≡ sets_of column options a }
 {
@@ -107,6 +113,7 @@ fn sets(column: Column, options: u8, a: u16) -> u8
     rises(column, a)
 }
 
+#[tactic(auto, unfolding(crate::specs::Reset::reset_cell_of))]
 fn reset_cell(column: Column, options: u8, a: u16, v: u8) -> u8
     ensures { result ≡ reset_cell_of column options a v }
 {
@@ -123,6 +130,7 @@ fn reset_cell_at(column: Column, options: u8, i: usize, v: u8) -> u8
 }
 
 // The cells of a memory after a reset.
+#[tactic(auto, unfolding(crate::specs::Reset::reset_memory_of))]
 pub fn reset_memory(column: Column, options: u8, memory: &mut [u8])
     ensures { memory.new ≡ reset_memory_of column options memory.old }
 {
@@ -133,6 +141,7 @@ pub fn reset_memory(column: Column, options: u8, memory: &mut [u8])
     }
 }
 
+#[tactic(auto, unfolding(crate::specs::Reset::pins_of, sh_state::specs::Record::set_pin_a, sh_state::specs::Record::set_pin_b, sh_state::specs::Record::set_pin_c, sh_state::specs::Record::set_pin_d))]
 fn with_pins(m: Machine, pins: Machine) -> Machine
     ensures { result ≡ pins_of m pins }
 {
@@ -144,6 +153,7 @@ fn with_pins(m: Machine, pins: Machine) -> Machine
     n
 }
 
+#[tactic(auto, unfolding(crate::specs::Reset::reset_record_of))]
 fn reset_record(m: Machine) -> Machine
     ensures { result ≡ reset_record_of m }
 {
@@ -151,6 +161,7 @@ fn reset_record(m: Machine) -> Machine
 }
 
 // A machine after a reset.
+#[tactic(auto, unfolding(crate::specs::Reset::reset_of))]
 pub fn reset(column: Column, m: Machine, memory: &mut [u8]) -> Machine
     ensures { state result memory.new ≡ reset_of column (state m memory.old) }
 {

@@ -8,12 +8,13 @@ use lent::Found;
 use refusal::Refusal;
 use sh_state::machine::Machine;
 
-#[derive(Drop)]
+#[derive(Clone, Copy)]
 pub enum Judged {
     Fine,
     Refused(Refusal),
 }
 
+#[tactic(auto, unfolding(crate::specs::Judge::cells_judged))]
 fn cells(f: Found) -> Judged
     ensures { result ≡ cells_judged f }
 {
@@ -24,6 +25,7 @@ fn cells(f: Found) -> Judged
 }
 
 // A memory by its length and then by its lowest broken cell.
+#[tactic(auto, unfolding(crate::specs::Judge::memory_judged))]
 pub fn memory(bytes: &[u8]) -> Judged
     ensures { result ≡ memory_judged bytes.now }
 {
@@ -35,6 +37,7 @@ pub fn memory(bytes: &[u8]) -> Judged
 }
 
 // A record by the memory beside it.
+#[tactic(auto, unfolding(crate::specs::Judge::record_judged))]
 fn record(m: Machine, bytes: &[u8]) -> Judged
     ensures { result ≡ record_judged (state m bytes.now) }
 {
@@ -45,6 +48,7 @@ fn record(m: Machine, bytes: &[u8]) -> Judged
 }
 
 // The first of two judgements that turns down.
+#[tactic(auto, unfolding(crate::specs::Judge::first_of))]
 pub fn first(a: Judged, b: Judged) -> Judged
     ensures { result ≡ first_of a b }
 {
@@ -55,6 +59,7 @@ pub fn first(a: Judged, b: Judged) -> Judged
 }
 
 // A memory and the record beside it.
+#[tactic(auto, unfolding(crate::specs::Judge::state_judged))]
 pub fn machine(m: Machine, bytes: &[u8]) -> Judged
     ensures { result ≡ state_judged (state m bytes.now) }
 {

@@ -10,6 +10,7 @@ use sh_map::map;
 use sh_state::machine::Machine;
 
 // Whether a byte has no bit but those that the cell at an address holds.
+#[tactic(auto, unfolding(crate::specs::Rules::cell_fits))]
 fn cell_fits(a: usize, v: u8) -> bool
     ensures { result ≡ cell_fits a v }
 {
@@ -93,6 +94,7 @@ pub fn first_broken(memory: &[u8]) -> Found
     Found::Nothing
 }
 
+#[tactic(auto, unfolding(crate::specs::Rules::cpu_fits))]
 fn cpu_fits(m: Machine) -> bool
     ensures { result ≡ cpu_fits m }
 {
@@ -108,6 +110,7 @@ fn cpu_fits(m: Machine) -> bool
     m.mode < 3
 }
 
+#[tactic(auto, unfolding(crate::specs::Rules::stack_fits))]
 fn stack_fits(s: [u16; Machine::LEVELS]) -> bool
     ensures { result ≡ stack_fits s }
 {
@@ -138,12 +141,14 @@ fn stack_fits(s: [u16; Machine::LEVELS]) -> bool
     true
 }
 
+#[tactic(auto, unfolding(crate::specs::Rules::timer0_fits))]
 fn timer0_fits(m: Machine, mode: u8) -> bool
     ensures { result ≡ timer0_fits m mode }
 {
     m.prescaler < sh_periods::ratio(mode)
 }
 
+#[tactic(auto, unfolding(crate::specs::Rules::base_fits))]
 fn base_fits(m: Machine, mode: u8) -> bool
     ensures { result ≡ base_fits m mode }
 {
@@ -156,6 +161,7 @@ fn base_fits(m: Machine, mode: u8) -> bool
     m.basecounter == 0
 }
 
+#[tactic(auto, unfolding(crate::specs::Rules::watchdog_fits))]
 fn watchdog_fits(m: Machine, control: u8) -> bool
     ensures { result ≡ watchdog_fits m control }
 {
@@ -166,12 +172,14 @@ fn watchdog_fits(m: Machine, control: u8) -> bool
 }
 
 // Counter, load and base counter are bytes by their type.
+#[tactic(auto, unfolding(crate::specs::Rules::bytes_fit))]
 fn bytes_fit(m: Machine) -> bool
     ensures { result ≡ bytes_fit m }
 {
     true
 }
 
+#[tactic(auto, unfolding(crate::specs::Rules::pins_fit))]
 fn pins_fit(m: Machine) -> bool
     ensures { result ≡ pins_fit m }
 {
@@ -187,6 +195,7 @@ fn pins_fit(m: Machine) -> bool
     m.pind < 16
 }
 
+#[tactic(auto, unfolding(crate::specs::Rules::options_fit))]
 fn options_fit(m: Machine, bonding: u8) -> bool
     ensures { result ≡ options_fit m bonding }
 {
@@ -196,6 +205,7 @@ fn options_fit(m: Machine, bonding: u8) -> bool
     bonding % 4 == m.options / 2
 }
 
+#[tactic(auto, unfolding(crate::specs::Rules::pending_fits))]
 fn pending_fits(m: Machine) -> bool
     ensures { result ≡ pending_fits m }
 {
@@ -209,6 +219,7 @@ fn pending_fits(m: Machine) -> bool
 }
 
 // The rules that tie a field to the memory beside it.
+#[tactic(auto, unfolding(crate::specs::Rules::ties_fit))]
 fn ties_fit(m: Machine, memory: &[u8]) -> bool
     ensures { result ≡ ties_fit (state m memory.now) }
 {
@@ -220,6 +231,7 @@ fn ties_fit(m: Machine, memory: &[u8]) -> bool
 }
 
 // Whether a record fits its memory.
+#[tactic(auto, unfolding(crate::specs::Rules::well_formed_of))]
 pub fn well_formed(m: Machine, memory: &[u8]) -> bool
     ensures { result ≡ well_formed_of (state m memory.now) }
 {

@@ -1,4 +1,6 @@
 // A run: the events of a script, one after the other.
+#![tactic(auto)]
+
 mod single;
 mod stretch;
 
@@ -9,14 +11,14 @@ ghost use Rattle.sh_run.specs.Run.{ran, run_of};
 use sh_state::machine::Machine;
 
 // Why a run stopped: at the address, before an unlisted word, or at the script's end.
-#[derive(Drop)]
+#[derive(Clone, Copy)]
 pub enum Stop {
     Address,
     Unlisted,
     End,
 }
 
-#[derive(Drop)]
+#[derive(Clone, Copy)]
 pub struct Ended {
     pub machine: Machine,
     pub why: Stop,

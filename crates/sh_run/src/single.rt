@@ -12,7 +12,7 @@ use sh_state::machine::Machine;
 
 // The machine before the first event that is not done, whether that one would execute an unlisted word, and whether the last one left PC at
 // the target.
-#[derive(Drop)]
+#[derive(Clone, Copy)]
 pub struct Single {
     pub machine: Machine,
     pub events: usize,

@@ -13,7 +13,7 @@ use sh_state::machine::Machine;
 const MANY: usize = 64;
 
 // The machine before the first event that is not done, and whether the last one left PC at the target.
-#[derive(Drop)]
+#[derive(Clone, Copy)]
 pub struct Stretch {
     pub machine: Machine,
     pub events: usize,
@@ -30,6 +30,7 @@ pub fn at(pc: u16, target: u32) -> bool
 }
 
 // Whether a cycle is quiet: no read pending, nothing due, and room before Timer0 overflows.
+#[tactic(auto, unfolding(crate::specs::Stretch::quiet_of))]
 fn quiet(m: Machine, due: u8, room: u32) -> bool
     ensures { result ≡ quiet_of m due room }
 {
@@ -77,7 +78,7 @@ fn done(
 }
 
 // PC, AC and CY before the first event that is not done, and whether the last one left PC at the target.
-#[derive(Drop)]
+#[derive(Clone, Copy)]
 pub struct Pause {
     pub core: Core,
     pub events: usize,
@@ -328,6 +329,7 @@ fn at_cycle(
     unmoved(start, first)
 }
 
+#[tactic(auto, unfolding(crate::specs::Stretch::apart_cell))]
 fn apart_cell(a: u16) -> bool
     ensures { result ≡ apart_cell a }
 {
@@ -341,6 +343,7 @@ fn apart_cell(a: u16) -> bool
 }
 
 // Whether the word is a form with AC that names $004, $005 or $01E: no stretch takes it.
+#[tactic(auto, unfolding(crate::specs::Stretch::apart_of))]
 fn apart(w: u16) -> bool
     ensures { result ≡ apart_of w }
 {

@@ -1,4 +1,6 @@
 // One sound clock of the machine: both tone channels, by the registers as they stand.
+#![tactic(auto)]
+
 ghost use Rattle.std.specs.Prelude.{◌≡◌};
 ghost use Rattle.sh_sound.specs.Sound.{channels_of, sound_of};
 
@@ -6,6 +8,7 @@ use sh_map::map;
 use sh_state::machine::Machine;
 use sh_tones::Channels;
 
+#[tactic(auto, unfolding(crate::specs::Sound::channels_of))]
 fn channels(c: Channels, memory: &[u8]) -> Channels
     ensures { result ≡ channels_of c memory.now }
 {
@@ -22,6 +25,7 @@ fn channels(c: Channels, memory: &[u8]) -> Channels
 }
 
 // One sound clock; in STOP there is none.
+#[tactic(auto, unfolding(crate::specs::Sound::sound_of, sh_state::specs::Record::set_channels))]
 pub fn sound(m: Machine, memory: &[u8]) -> Machine
     ensures { result ≡ sound_of m memory.now }
 {

@@ -6,7 +6,7 @@ use sh_halves::Frozen;
 use sh_tones::Channels;
 
 // In the order that copies best: docs/DECISIONS.md, The quick run.
-#[derive(Drop)]
+#[derive(Clone, Copy)]
 pub struct Machine {
     pub pc: u16,
     // Timer0's
@@ -45,6 +45,7 @@ impl Machine {
     pub const WORDS: usize = 4096;
 
     // The machine after power-on and the pin reset, with the options of its board.
+    #[tactic(auto, unfolding(crate::specs::Record::fresh_of))]
     pub fn fresh(options: u8) -> Self
         ensures { result ≡ fresh_of options }
     {
@@ -73,6 +74,7 @@ impl Machine {
     }
 
     // The machine with an entry pushed: the oldest of eight drops out.
+    #[tactic(auto, unfolding(crate::specs::Record::push_of, crate::specs::Record::set_stack))]
     pub fn push(self, v: u16) -> Machine
         ensures { result ≡ push_of self v }
     {
@@ -84,6 +86,7 @@ impl Machine {
     }
 
     // The machine with the newest entry taken: 0 enters at the bottom.
+    #[tactic(auto, unfolding(crate::specs::Record::pop_of, crate::specs::Record::set_stack))]
     pub fn pop(self) -> Machine
         ensures { result ≡ pop_of self }
     {
@@ -95,6 +98,7 @@ impl Machine {
     }
 
     // The newest entry.
+    #[tactic(auto, unfolding(crate::specs::Record::newest_of))]
     pub fn newest(self) -> u16
         ensures { result ≡ newest_of self }
     {
@@ -104,6 +108,7 @@ impl Machine {
 }
 
 // A stack entry: CY times 4,096 plus PC.
+#[tactic(auto, unfolding(crate::specs::Record::entry_of))]
 pub fn entry(cy: u8, pc: u16) -> u16
     ensures { result ≡ entry_of cy pc }
 {
@@ -111,6 +116,7 @@ pub fn entry(cy: u8, pc: u16) -> u16
 }
 
 // The machine with its counter at an address.
+#[tactic(auto, unfolding(crate::specs::Record::set_pc))]
 pub fn with_pc(m: Machine, pc: u16) -> Machine
     ensures { result ≡ set_pc m pc }
 {

@@ -1,4 +1,6 @@
 // How many clocks Timer0 takes before its counter would go past 255, and the machine after some of them.
+#![tactic(auto)]
+
 ghost use Rattle.std.specs.Prelude.{◌+◌, ◌-◌, ◌*◌, ◌/◌, ◌%◌, ◌<◌, ◌≤◌, ◌≡◌};
 ghost use Rattle.sh_core.specs.Quick.{core_in};
 ghost use Rattle.sh_ticks.specs.Clock.{timed_of, room_of};
@@ -22,6 +24,7 @@ fn left(counter: u8, prescaler: u16, ratio: u16) -> u32
 }
 
 // The clocks until Timer0 would go past 255; none where the prescaler is past its ratio.
+#[tactic(auto, unfolding(crate::specs::Clock::room_of, crate::specs::Clock::clocks_of))]
 pub fn room(m: Machine, mode: u8) -> u32
     ensures { result ≡ room_of m mode }
 {
@@ -51,8 +54,9 @@ fn counter_at(t: u64, ratio: u16) -> u8
 }
 
 // The machine after n clocks of Timer0, by the mode in $002.
+#[tactic(auto, unfolding(crate::specs::Clock::timed_of, crate::specs::Clock::clocks_of, sh_timers::specs::Ticked::time_set_of))]
 fn timed(m: Machine, mode: u8, n: u32) -> Machine
-    requires mode_nonzero { 0 < room_of m mode }
+    requires room_nonzero { 0 < room_of m mode }
     requires n_bound { n ≤ room_of m mode }
     ensures { result ≡ timed_of m mode n }
 {
@@ -68,6 +72,7 @@ fn timed(m: Machine, mode: u8, n: u32) -> Machine
     timer0::time_set(m, prescaler_at(t, ratio), counter_at(t, ratio))
 }
 
+#[tactic(auto, unfolding(sh_core::specs::Quick::core_in, sh_state::specs::Record::set_pc, sh_state::specs::Record::set_cy, sh_state::specs::Record::set_ac))]
 fn in_machine(m: Machine, c: Core) -> Machine
     ensures { result ≡ core_in m c }
 {
@@ -80,7 +85,7 @@ fn in_machine(m: Machine, c: Core) -> Machine
 
 // The machine after n clocks, with PC, AC and CY.
 pub fn after(m: Machine, c: Core, mode: u8, n: u32) -> Machine
-    requires mode_nonzero { 0 < room_of m mode }
+    requires room_nonzero { 0 < room_of m mode }
     requires n_bound { n ≤ room_of m mode }
     ensures { result ≡ core_in (timed_of m mode n) c }
 {

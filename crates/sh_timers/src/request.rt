@@ -6,13 +6,14 @@ use sh_map::map;
 use sh_state::machine::Machine;
 
 // A part's work: the record that it leaves, and the bits of $001 that it sets.
-#[derive(Drop)]
+#[derive(Clone, Copy)]
 pub struct Moved {
     pub machine: Machine,
     pub requests: u8,
 }
 
 // $001 with some bits set.
+#[tactic(auto, unfolding(crate::specs::Request::requested_of))]
 pub fn requested(memory: &mut [u8], bits: u8)
     ensures { memory.new ≡ requested_of memory.old bits }
 {

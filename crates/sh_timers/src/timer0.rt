@@ -8,6 +8,7 @@ ghost use Rattle.sh_timers.specs.Ticked.{ticked_by, ticked_of, time_set_of};
 use crate::request::Moved;
 use sh_state::machine::Machine;
 
+#[tactic(auto, unfolding(crate::specs::Timer0::reload_of))]
 fn reload(m: Machine, mode: u8) -> u8
     ensures { result ≡ reload_of m mode }
 {
@@ -17,6 +18,7 @@ fn reload(m: Machine, mode: u8) -> u8
     0
 }
 
+#[tactic(auto, unfolding(sh_state::specs::Record::set_counter))]
 fn count_to(m: Machine, v: u8, bits: u8) -> Moved
     ensures { result ≡ moved (set_counter m v) bits }
 {
@@ -34,6 +36,7 @@ fn overflowed(m: Machine, mode: u8) -> Moved
     count_to(m, reload(m, mode), 4)
 }
 
+#[tactic(auto, unfolding(crate::specs::Timer0::counted_of))]
 fn counted(m: Machine, mode: u8) -> Moved
     ensures { result ≡ counted_of m mode }
 {
@@ -44,13 +47,14 @@ fn counted(m: Machine, mode: u8) -> Moved
 }
 
 // Timer0's own part of a clock: what its prescaler and counter become, and the bits of $001 that are set.
-#[derive(Drop)]
+#[derive(Clone, Copy)]
 pub struct Tick {
     pub prescaler: u16,
     pub counter: u8,
     pub requests: u8,
 }
 
+#[tactic(auto, unfolding(crate::specs::Ticked::ticked_by))]
 fn ticked_by(prescaler: u16, counter: u8, load: u8, mode: u8, ratio: u16) -> Tick
     ensures { result ≡ ticked_by prescaler counter load mode ratio }
 {
@@ -91,6 +95,7 @@ fn ticked_by(prescaler: u16, counter: u8, load: u8, mode: u8, ratio: u16) -> Tic
 }
 
 // One system clock of the prescaler and the counter, by the mode in $002.
+#[tactic(auto, unfolding(crate::specs::Ticked::ticked_of))]
 pub fn ticked(prescaler: u16, counter: u8, load: u8, mode: u8) -> Tick
     ensures { result ≡ ticked_of prescaler counter load mode }
 {
@@ -98,6 +103,7 @@ pub fn ticked(prescaler: u16, counter: u8, load: u8, mode: u8) -> Tick
 }
 
 // The record with Timer0's prescaler and counter.
+#[tactic(auto, unfolding(crate::specs::Ticked::time_set_of, sh_state::specs::Record::set_counter, sh_state::specs::Record::set_prescaler))]
 pub fn time_set(m: Machine, prescaler: u16, counter: u8) -> Machine
     ensures { result ≡ time_set_of m prescaler counter }
 {
@@ -108,6 +114,7 @@ pub fn time_set(m: Machine, prescaler: u16, counter: u8) -> Machine
 }
 
 // A falling edge of PORTA.0 as input (1), or none (0), by the mode in $002.
+#[tactic(auto, unfolding(crate::specs::Timer0::fallen_of))]
 pub fn fallen(m: Machine, mode: u8, falling: u8) -> Moved
     ensures { result ≡ fallen_of m mode falling }
 {

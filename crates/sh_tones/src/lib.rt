@@ -1,21 +1,24 @@
 // The two tone channels: one sound clock of each.
+#![tactic(auto)]
+
 ghost use Rattle.std.specs.Prelude.{◌≡◌};
 ghost use Rattle.sh_tones.specs.Tone.{value_of, length_of, turned_of, fallen_of, sounded_by, sounded_of, channel1_of, channel2_of, channel_fits, silent_of, channels_fit};
 
 // What a channel keeps between two sound clocks: its remaining count, and its output.
-#[derive(Drop)]
+#[derive(Clone, Copy)]
 pub struct Channel {
     pub count: u16,
     pub output: u8,
 }
 
 // Both channels, as the record keeps them.
-#[derive(Drop)]
+#[derive(Clone, Copy)]
 pub struct Channels {
     pub first: Channel,
     pub second: Channel,
 }
 
+#[tactic(auto, unfolding(crate::specs::Tone::value_of))]
 fn value(low: u8, high: u8) -> u8
     ensures { result ≡ value_of low high }
 {
@@ -32,6 +35,7 @@ fn length(v: u8, octave: u8) -> u16
     n
 }
 
+#[tactic(auto, unfolding(crate::specs::Tone::turned_of))]
 fn turned(output: u8) -> u8
     ensures { result ≡ turned_of output }
 {
@@ -79,6 +83,7 @@ fn sounded_by(c: Channel, enabled: bool, v: u8, octave: u8) -> Channel
 }
 
 // One sound clock of a channel, by whether it is enabled and by the two nibbles of its value and octave bit.
+#[tactic(auto, unfolding(crate::specs::Tone::sounded_of, crate::specs::Tone::octave_of))]
 pub fn sounded(c: Channel, enabled: bool, low: u8, high: u8) -> Channel
     ensures { result ≡ sounded_of c enabled low high }
 {
@@ -86,6 +91,7 @@ pub fn sounded(c: Channel, enabled: bool, low: u8, high: u8) -> Channel
 }
 
 // One sound clock of channel 1, by $377, $371 and $372.
+#[tactic(auto, unfolding(crate::specs::Tone::channel1_of))]
 pub fn channel1(c: Channel, enables: u8, low: u8, high: u8) -> Channel
     ensures { result ≡ channel1_of c enables low high }
 {
@@ -93,6 +99,7 @@ pub fn channel1(c: Channel, enables: u8, low: u8, high: u8) -> Channel
 }
 
 // One sound clock of channel 2, by $370, $377, $375 and $376.
+#[tactic(auto, unfolding(crate::specs::Tone::channel2_of))]
 pub fn channel2(c: Channel, modes: u8, enables: u8, low: u8, high: u8) -> Channel
     ensures { result ≡ channel2_of c modes enables low high }
 {
@@ -105,6 +112,7 @@ pub fn channel2(c: Channel, modes: u8, enables: u8, low: u8, high: u8) -> Channe
 }
 
 // Both channels after a reset.
+#[tactic(auto, unfolding(crate::specs::Tone::silent_of))]
 pub fn silent() -> Channels
     ensures { result ≡ silent_of }
 {
@@ -120,6 +128,7 @@ pub fn silent() -> Channels
     }
 }
 
+#[tactic(auto, unfolding(crate::specs::Tone::channel_fits))]
 fn fits(c: Channel) -> bool
     ensures { result ≡ channel_fits c }
 {
@@ -130,6 +139,7 @@ fn fits(c: Channel) -> bool
 }
 
 // Whether a record may hold the channels so: each with a count of 1,015 at most, and an output of 0 or 1.
+#[tactic(auto, unfolding(crate::specs::Tone::channels_fit))]
 pub fn fit(c: Channels) -> bool
     ensures { result ≡ channels_fit c }
 {

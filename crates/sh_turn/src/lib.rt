@@ -1,6 +1,8 @@
 // A word that does not go by PC, AC, CY and plain cells alone: it moves the stack, or is on a register that has no effect of its own, or
 // adjusts, or jumps by the table. Which bits a register takes and what it shows is said here once more, without the tables of sh_map:
 // the laws in proofs/Turns.antt have that it is the same.
+#![tactic(auto)]
+
 ghost use Rattle.std.specs.Prelude.{◌/◌, ◌%◌, ◌<◌, ◌≡◌, eqb};
 ghost use Rattle.sh_cells.specs.Cells.{target_of};
 ghost use Rattle.sh_core.specs.Quick.{quickly};
@@ -14,12 +16,13 @@ use sh_state::machine::Machine;
 use word::Operation;
 
 // The machine with its stack, and PC, AC, CY and whether the word went: where not, nothing has moved.
-#[derive(Drop)]
+#[derive(Clone, Copy)]
 pub struct Turned {
     pub machine: Machine,
     pub core: Core,
 }
 
+#[tactic(auto, unfolding(crate::specs::Turn::shown_of))]
 fn shown(m: Machine, memory: &[u8], a: u16) -> u8
     ensures { result ≡ shown_of m memory.now a }
 {
@@ -39,6 +42,7 @@ fn shown(m: Machine, memory: &[u8], a: u16) -> u8
 }
 
 // The bits that a write to a register stores.
+#[tactic(auto, unfolding(crate::specs::Turn::mask_of))]
 fn mask(a: u16) -> u8
     ensures { result ≡ mask_of a }
 {
@@ -70,6 +74,7 @@ fn mask(a: u16) -> u8
 }
 
 // A register whose read does nothing and shows no clock.
+#[tactic(auto, unfolding(crate::specs::Turn::readable_of))]
 fn readable(a: u16) -> bool
     ensures { result ≡ readable_of a }
 {
@@ -89,6 +94,7 @@ fn readable(a: u16) -> bool
 }
 
 // A register whose write does nothing to the record.
+#[tactic(auto, unfolding(crate::specs::Turn::writable_of))]
 fn writable(a: u16) -> bool
     ensures { result ≡ writable_of a }
 {
@@ -108,6 +114,7 @@ fn writable(a: u16) -> bool
 }
 
 // The result's bits where the mask has a 1, the others as they were: the choice that a port makes between latch and pin.
+#[tactic(auto, unfolding(crate::specs::Turn::put_masked_of))]
 fn put_masked(c: Core, memory: &mut [u8], a: u16, r: Sum) -> Core
     ensures { quickly result memory.new ≡ put_masked_of c memory.old a r }
 {
@@ -116,6 +123,7 @@ fn put_masked(c: Core, memory: &mut [u8], a: u16, r: Sum) -> Core
     sh_core::got(c, r)
 }
 
+#[tactic(auto, unfolding(crate::specs::Turn::put_register_of))]
 fn put_register(c: Core, memory: &mut [u8], a: u16, r: Sum) -> Core
     ensures { quickly result memory.new ≡ put_register_of c memory.old a r }
 {
@@ -125,6 +133,7 @@ fn put_register(c: Core, memory: &mut [u8], a: u16, r: Sum) -> Core
     sh_core::stays(c)
 }
 
+#[tactic(auto, unfolding(crate::specs::Turn::takes_of))]
 fn takes(c: Core, memory: &mut [u8], a: u16, r: Sum, writes: bool) -> Core
     ensures { quickly result memory.new ≡ takes_of c memory.old a r writes }
 {
@@ -135,6 +144,7 @@ fn takes(c: Core, memory: &mut [u8], a: u16, r: Sum, writes: bool) -> Core
 }
 
 // The operation of an immediate form's code.
+#[tactic(auto, unfolding(crate::specs::Turn::code_of))]
 fn operation_with(code: u16) -> Operation
     ensures { result ≡ code_of code }
 {
@@ -159,6 +169,7 @@ fn operation_with(code: u16) -> Operation
     Operation::And
 }
 
+#[tactic(auto, unfolding(crate::specs::Turn::writes_of))]
 fn writes(code: u16) -> bool
     ensures { result ≡ writes_of code }
 {
@@ -171,6 +182,7 @@ fn writes(code: u16) -> bool
     true
 }
 
+#[tactic(auto, unfolding(crate::specs::Turn::transferred_of))]
 fn transferred(c: Core, x: u8, w: u16) -> Sum
     ensures { result ≡ transferred_of c x w }
 {
@@ -180,6 +192,7 @@ fn transferred(c: Core, x: u8, w: u16) -> Sum
     alu::loaded(x, c.cy)
 }
 
+#[tactic(auto, unfolding(crate::specs::Turn::ac_result_of))]
 fn result_ac(c: Core, x: u8, w: u16) -> Sum
     ensures { result ≡ ac_result_of c x w }
 {
@@ -189,6 +202,7 @@ fn result_ac(c: Core, x: u8, w: u16) -> Sum
     transferred(c, x, w)
 }
 
+#[tactic(auto, unfolding(crate::specs::Turn::immediate_result_of))]
 fn result_immediate(c: Core, x: u8, w: u16) -> Sum
     ensures { result ≡ immediate_result_of c x w }
 {
@@ -212,6 +226,7 @@ fn register_immediate(c: Core, m: Machine, memory: &mut [u8], w: u16, a: u16) ->
     takes(c, memory, a, result_immediate(c, x, w), writes(w / 2048))
 }
 
+#[tactic(auto, unfolding(crate::specs::Turn::ac_word_of))]
 fn word_ac(c: Core, m: Machine, memory: &mut [u8], w: u16) -> Core
     ensures { quickly result memory.new ≡ ac_word_of m c memory.old w (target_of memory.old (w % 1024)) }
 {
@@ -222,6 +237,7 @@ fn word_ac(c: Core, m: Machine, memory: &mut [u8], w: u16) -> Core
     sh_core::stays(c)
 }
 
+#[tactic(auto, unfolding(crate::specs::Turn::immediate_word_of))]
 fn word_immediate(c: Core, m: Machine, memory: &mut [u8], w: u16) -> Core
     ensures { quickly result memory.new ≡ immediate_word_of m c memory.old w (target_of memory.old (w % 128)) }
 {
@@ -232,6 +248,7 @@ fn word_immediate(c: Core, m: Machine, memory: &mut [u8], w: u16) -> Core
     sh_core::stays(c)
 }
 
+#[tactic(auto, unfolding(crate::specs::Turn::cell_turn_of))]
 fn cells(c: Core, m: Machine, memory: &mut [u8], w: u16) -> Core
     ensures { quickly result memory.new ≡ cell_turn_of m c memory.old w }
 {
@@ -242,6 +259,7 @@ fn cells(c: Core, m: Machine, memory: &mut [u8], w: u16) -> Core
 }
 
 // DAA and DAS on data, display and scan.
+#[tactic(auto, unfolding(crate::specs::Turn::adjusted_of))]
 fn adjusted(c: Core, memory: &mut [u8], w: u16, a: u16) -> Core
     ensures { quickly result memory.new ≡ adjusted_of c memory.old w a }
 {
@@ -255,6 +273,7 @@ fn adjusted(c: Core, memory: &mut [u8], w: u16, a: u16) -> Core
     sh_core::stays(c)
 }
 
+#[tactic(auto, unfolding(crate::specs::Turn::decimal_of))]
 fn decimal(c: Core, memory: &mut [u8], w: u16) -> Core
     ensures { quickly result memory.new ≡ decimal_of c memory.old w (target_of memory.old (w % 128)) }
 {
@@ -266,12 +285,14 @@ fn decimal(c: Core, memory: &mut [u8], w: u16) -> Core
 }
 
 // Where TJMP goes.
+#[tactic(auto, unfolding(crate::specs::Turn::table_of))]
 fn table(c: Core, memory: &[u8]) -> u16
     ensures { result ≡ table_of c memory.now }
 {
     c.pc / 256 * 256 + (map::cell(memory, 0x0E) % 16 * 16 + c.ac % 16) as u16
 }
 
+#[tactic(auto, unfolding(crate::specs::Turn::other_turn_of))]
 fn other(c: Core, m: Machine, memory: &mut [u8], w: u16) -> Core
     ensures { quickly result memory.new ≡ other_turn_of m c memory.old w }
 {
@@ -287,6 +308,7 @@ fn other(c: Core, m: Machine, memory: &mut [u8], w: u16) -> Core
     sh_core::stays(c)
 }
 
+#[tactic(auto, unfolding(crate::specs::Turn::called_of))]
 fn call(m: Machine, c: Core, t: u16) -> Turned
     ensures { result ≡ called_of m c t }
 {
@@ -296,6 +318,7 @@ fn call(m: Machine, c: Core, t: u16) -> Turned
     }
 }
 
+#[tactic(auto, unfolding(crate::specs::Turn::returned_of))]
 fn rtni(m: Machine, c: Core) -> Turned
     ensures { result ≡ returned_of m c }
 {
@@ -311,6 +334,7 @@ fn rtni(m: Machine, c: Core) -> Turned
     }
 }
 
+#[tactic(auto, unfolding(crate::specs::Turn::returned_with_of))]
 fn rtnw(m: Machine, c: Core, memory: &mut [u8], h: u8, l: u8) -> Turned
     ensures { turning result memory.new ≡ returned_with_of m c memory.old h l }
 {
@@ -328,6 +352,7 @@ fn rtnw(m: Machine, c: Core, memory: &mut [u8], h: u8, l: u8) -> Turned
 }
 
 // A word that leaves the stack.
+#[tactic(auto, unfolding(crate::specs::Turn::alone_of))]
 fn alone(m: Machine, c: Core, memory: &mut [u8], w: u16) -> Turned
     ensures { turning result memory.new ≡ alone_of m (other_turn_of m c memory.old w) }
 {
@@ -338,6 +363,7 @@ fn alone(m: Machine, c: Core, memory: &mut [u8], w: u16) -> Turned
 }
 
 // The word, where it goes.
+#[tactic(auto, unfolding(crate::specs::Turn::turn_of))]
 pub fn turn(m: Machine, c: Core, memory: &mut [u8], w: u16) -> Turned
     ensures { turning result memory.new ≡ turn_of m c memory.old w }
 {

@@ -1,4 +1,6 @@
 // Two cars over one program: each by itself over the entries of both, a part of them at a time.
+#![tactic(auto)]
+
 ghost use Rattle.std.specs.Prelude.{◌*◌, ◌+◌, ◌-◌, ◌/◌, ◌<◌, ◌≤◌, ◌≡◌, length, take};
 ghost use Rattle.sh_state.specs.State.{state};
 ghost use Rattle.sh_run.specs.declared.Stop.TheVariants as stop;
@@ -59,6 +61,7 @@ fn through(script: &[u8], number: u8, first: usize, end: usize, j: usize) -> usi
 }
 
 // How many entries of a part are read where a run of the car's own did n events.
+#[tactic(auto, unfolding(crate::specs::Alone::read_of))]
 fn read(script: &[u8], number: u8, first: usize, end: usize, why: Stop, n: usize) -> usize
     requires { (first ≤ end) × (end * 2 ≤ length script.now) × (n ≤ 1024) }
     ensures { (result ≡ read_of number (part_of script.now first end) why n) × (result ≤ end - first) }
@@ -71,6 +74,7 @@ fn read(script: &[u8], number: u8, first: usize, end: usize, why: Stop, n: usize
 }
 
 // Whether a car takes no more entries.
+#[tactic(auto, unfolding(crate::specs::Two::stopped_of))]
 fn stopped(why: Stop) -> bool
     ensures { result ≡ stopped_of why }
 {
@@ -82,7 +86,7 @@ fn stopped(why: Stop) -> bool
 }
 
 // A car's machine, why it stopped, and how many entries of both are read.
-#[derive(Drop)]
+#[derive(Clone, Copy)]
 pub struct Alone {
     pub machine: Machine,
     pub why: Stop,
@@ -150,6 +154,7 @@ fn by_itself(
     }
 }
 
+#[tactic(auto, unfolding(crate::specs::Alone::later_of))]
 fn later(a: usize, b: usize) -> usize
     ensures { result ≡ later_of a b }
 {
@@ -160,7 +165,7 @@ fn later(a: usize, b: usize) -> usize
 }
 
 // Both cars' machines, why each stopped, and how many entries are read.
-#[derive(Drop)]
+#[derive(Clone, Copy)]
 pub struct Ended {
     pub first: Machine,
     pub firstwhy: Stop,

@@ -1,4 +1,6 @@
 // What a write leaves in the cell and in the record.
+#![tactic(auto)]
+
 ghost use Rattle.std.specs.Prelude.{◌≡◌};
 ghost use Rattle.sh_state.specs.Record.{set_prescaler};
 ghost use Rattle.sh_state.specs.State.{state};
@@ -8,6 +10,7 @@ use sh_map::map;
 use sh_state::machine::Machine;
 
 // What the cell holds after v is written where it held old.
+#[tactic(auto, unfolding(crate::specs::Writes::kept_of))]
 fn kept(old: u8, a: u16, v: u8) -> u8
     ensures { result ≡ kept_of old a v }
 {
@@ -15,6 +18,7 @@ fn kept(old: u8, a: u16, v: u8) -> u8
     (old & (255 - w)) | (v & w)
 }
 
+#[tactic(auto, unfolding(crate::specs::Writes::base_written_of, sh_state::specs::Record::set_base_prescaler, sh_state::specs::Record::set_base_counter))]
 fn base_written(m: Machine, v: u8) -> Machine
     ensures { result ≡ base_written_of m v }
 {
@@ -27,6 +31,7 @@ fn base_written(m: Machine, v: u8) -> Machine
     n
 }
 
+#[tactic(auto, unfolding(crate::specs::Writes::load_low_of, sh_state::specs::Record::set_load))]
 fn load_low(m: Machine, v: u8) -> Machine
     ensures { result ≡ load_low_of m v }
 {
@@ -35,6 +40,7 @@ fn load_low(m: Machine, v: u8) -> Machine
     n
 }
 
+#[tactic(auto, unfolding(crate::specs::Writes::load_high_of, sh_state::specs::Record::set_load, sh_state::specs::Record::set_counter, sh_state::specs::Record::set_frozen))]
 fn load_high(m: Machine, v: u8) -> Machine
     ensures { result ≡ load_high_of m v }
 {
@@ -46,6 +52,7 @@ fn load_high(m: Machine, v: u8) -> Machine
     n
 }
 
+#[tactic(auto, unfolding(crate::specs::Writes::asked_of, sh_state::specs::Record::set_pending))]
 fn asked(m: Machine, memory: &[u8], v: u8) -> Machine
     ensures { result ≡ asked_of (state m memory.now) v }
 {
@@ -57,6 +64,7 @@ fn asked(m: Machine, memory: &[u8], v: u8) -> Machine
     n
 }
 
+#[tactic(auto, unfolding(sh_state::specs::Record::set_prescaler))]
 fn prescaler_cleared(m: Machine) -> Machine
     ensures { result ≡ set_prescaler m 0 }
 {
@@ -66,6 +74,7 @@ fn prescaler_cleared(m: Machine) -> Machine
 }
 
 // What the record notices of v being written.
+#[tactic(auto, unfolding(crate::specs::Writes::noticed_of))]
 fn noticed(m: Machine, memory: &[u8], a: u16, v: u8) -> Machine
     ensures { result ≡ noticed_of (state m memory.now) a v }
 {
@@ -91,6 +100,7 @@ fn noticed(m: Machine, memory: &[u8], a: u16, v: u8) -> Machine
 }
 
 // A write: the record that noticed it, and at most one cell changed.
+#[tactic(auto, unfolding(crate::specs::Writes::write_of))]
 pub fn write(m: Machine, memory: &mut [u8], a: u16, v: u8) -> Machine
     ensures { state result memory.new ≡ write_of (state m memory.old) a v }
 {

@@ -8,6 +8,7 @@ use sh_map::map;
 pub const NONE: u16 = 4096;
 
 // Whether addresses are kept under a cell.
+#[tactic(auto, unfolding(crate::specs::Key::keeps_of))]
 pub fn keeps(cell: u16) -> bool
     ensures { result ≡ keeps_of cell }
 {
@@ -18,6 +19,7 @@ pub fn keeps(cell: u16) -> bool
 }
 
 // The cell that a word is kept under.
+#[tactic(auto, unfolding(crate::specs::Key::key_of))]
 pub fn key(word: u16) -> u16
     ensures { result ≡ key_of word }
 {
@@ -28,6 +30,7 @@ pub fn key(word: u16) -> u16
 }
 
 // A cell, if addresses are kept under it.
+#[tactic(auto, unfolding(crate::specs::Key::kept_of))]
 fn kept(cell: u16) -> u16
     ensures { result ≡ kept_of cell }
 {

@@ -4,6 +4,7 @@ ghost use Rattle.std.specs.Prelude.{◌≡◌, ◌<◌, ◌≤◌, length};
 ghost use Rattle.tables.specs.Pass.{base_of, place_of, Ruled, Noted};
 
 // Where the slots of a word's upper nine bits begin.
+#[tactic(auto, unfolding(crate::specs::Pass::base_of))]
 fn base(i: u16) -> u16
     requires { i < 512 }
     ensures { result ≡ base_of i }

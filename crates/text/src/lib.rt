@@ -1,8 +1,11 @@
 // Text in lent bytes: numbers in upper-case hexadecimal digits and names in letters, as they are written and as they are read.
+#![tactic(auto)]
+
 ghost use Rattle.std.specs.Prelude.{◌+◌, ◌≤◌, ◌<◌, ◌≡◌, drop};
 ghost use Rattle.text.specs.Text.{digit_of, value_of, hex_of, number_in, letters_of, begins, laid_of};
 
 // The digit of a number below 16.
+#[tactic(auto, unfolding(crate::specs::Text::digit_of))]
 fn digit(v: u16) -> u8
     requires { v < 16 }
     ensures { result ≡ digit_of v }

@@ -1,4 +1,6 @@
 // The tone table, and the step of the seven-bit counter that it follows.
+#![tactic(auto)]
+
 ghost use Rattle.std.specs.Prelude.{◌≡◌};
 ghost use Rattle.tones.specs.Tones.{divider_of, shifted_of};
 
@@ -23,6 +25,7 @@ pub fn step(v: u8) -> u8
 
 // N of a register value, and 0 for what the table does not have. The table is searched from N 1 up, so that finding N takes N turns, and
 // N clocks or more go by until it is asked for again.
+#[tactic(auto, unfolding(crate::proofs::Table::made, crate::specs::Tones::printed, crate::specs::Tones::before, crate::specs::Tones::tone_of))]
 pub fn divider(v: u8) -> u8
     ensures { result ≡ divider_of v }
 {

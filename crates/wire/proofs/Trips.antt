@@ -66,8 +66,9 @@ pub words_back : (w r : List ℕ) (n : ℕ) → n ≤ length w → ((k : ℕ) �
 unfolding words_of pairs_of
 words_back w r zero h b = refl
 words_back w r (suc n) h b =
+    let e : pairs_of w (suc n) ++ r ≡ pairs_of w n ++ two (at w n) r = append_assoc (pairs_of w n) (two (at w n) []) r in
     let v = rw (length_pairs w n) at (pair_behind (pairs_of w n) r (at w n) (b n)) in
-    rw (append_assoc (pairs_of w n) (two (at w n) []) r, words_back w (two (at w n) r) n (omega arith) b, v) (sym (take-suc w n 0 (omega arith)))
+    ap (λ (l : List ℕ). words_of l (suc n)) e ∙ rw (words_back w (two (at w n) r) n (omega arith) b, v) (sym (take-suc w n 0 (omega arith)))
 
 -- and bytes, read as numbers, are their bytes again
 pub bytes_back : (b : List ℕ) (n : ℕ) → n * 2 ≤ length b → ((k : ℕ) → at b k < 256) → pairs_of (words_of b n) n ≡ take (n * 2) b

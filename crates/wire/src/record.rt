@@ -12,6 +12,7 @@ use sh_tones::{Channel, Channels};
 pub const BYTES: usize = 45;
 
 // A channel: two bytes of its count, and its output.
+#[tactic(auto, unfolding(crate::specs::Record::channel_at))]
 fn channel_at(s: &[u8], i: usize) -> Channel
     requires { i < 1024 }
     ensures { result ≡ channel_at s.now i }
@@ -23,6 +24,7 @@ fn channel_at(s: &[u8], i: usize) -> Channel
     }
 }
 
+#[tactic(auto, unfolding(crate::specs::Record::channels_at))]
 fn channels_at(s: &[u8]) -> Channels
     ensures { result ≡ channels_at s.now }
 {
@@ -32,6 +34,7 @@ fn channels_at(s: &[u8]) -> Channels
     }
 }
 
+#[tactic(auto, unfolding(crate::specs::Record::frozen_at))]
 fn frozen_at(s: &[u8]) -> Frozen
     ensures { result ≡ frozen_at s.now }
 {
@@ -42,6 +45,7 @@ fn frozen_at(s: &[u8]) -> Frozen
 }
 
 // The record that bytes say; what is missing reads as 0.
+#[tactic(auto, unfolding(crate::specs::Record::record_of))]
 pub fn record_of(s: &[u8]) -> Machine
     ensures { result ≡ record_of s.now }
 {
@@ -93,6 +97,7 @@ fn stack_bytes(s: [u16; 8]) -> [u8; 16]
 }
 
 // The bytes of a record.
+#[tactic(auto, unfolding(crate::specs::Record::bytes_of, crate::specs::Words::pairs_of))]
 pub fn bytes_of(m: Machine) -> [u8; BYTES]
     ensures { result ≡ bytes_of m }
 {

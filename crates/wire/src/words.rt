@@ -31,6 +31,7 @@ fn put_word(body: &[u8], a: u16, w: &mut [u16])
 }
 
 // A program that has the body's words at two addresses, and 0 elsewhere.
+#[tactic(auto, unfolding(crate::specs::Words::words_at_of))]
 pub fn words_at(body: &[u8], a: u16, b: u16) -> [u16; 4096]
     ensures { result ≡ words_at_of body.now a b }
 {

@@ -1,4 +1,6 @@
 // Instruction words (003, section 17; 01, "Instruction words"): which instruction a word is, and which word an instruction is.
+#![tactic(auto)]
+
 ghost use Rattle.std.specs.Prelude.{◌≡◌};
 ghost use Rattle.word.specs.Word.{decode_of, accumulator_of, transfer_of, control_of, encode_of, word_of, in_range};
 ghost use Rattle.word.specs.Codes.{operation_of, immediate_of, condition_of, operation_code, immediate_code, condition_code};
@@ -6,7 +8,7 @@ ghost use Rattle.word.specs.Codes.{operation_of, immediate_of, condition_of, ope
 use refusal::Refusal;
 
 // Accumulator type, with the memory or without: codes 0-6.
-#[derive(Drop)]
+#[derive(Clone, Copy)]
 pub enum Operation {
     Adc,
     Add,
@@ -18,7 +20,7 @@ pub enum Operation {
 }
 
 // Immediate type: codes 8-14.
-#[derive(Drop)]
+#[derive(Clone, Copy)]
 pub enum ImmediateOperation {
     Adi,
     Adim,
@@ -30,7 +32,7 @@ pub enum ImmediateOperation {
 }
 
 // Branches: codes 16-23.
-#[derive(Drop)]
+#[derive(Clone, Copy)]
 pub enum Condition {
     Bnz,
     Bnc,
@@ -42,7 +44,7 @@ pub enum Condition {
     Ba3,
 }
 
-#[derive(Drop)]
+#[derive(Clone, Copy)]
 pub enum Instruction {
     // ADC ADD SBC SUB EOR OR AND at an address, bank x 128 + X
     Accumulator(Operation, u16),
@@ -72,20 +74,21 @@ pub enum Instruction {
 }
 
 // What a word is read as.
-#[derive(Drop)]
+#[derive(Clone, Copy)]
 pub enum Decoded {
     Listed(Instruction),
     Refused(Refusal),
 }
 
 // What an instruction is written as.
-#[derive(Drop)]
+#[derive(Clone, Copy)]
 pub enum Encoded {
     Word(u16),
     Refused(Refusal),
 }
 
 // The instruction of a word; a word that section 17 doesn't list is refused, with the word.
+#[tactic(auto, unfolding(crate::specs::Word::decode_of))]
 pub fn decode(word: u16) -> Decoded
     ensures { result ≡ decode_of word }
 {
@@ -119,6 +122,7 @@ pub fn decode(word: u16) -> Decoded
 }
 
 // Codes 0-6: bit 10 set is the memory form.
+#[tactic(auto, unfolding(crate::specs::Word::accumulator_of))]
 fn accumulator(word: u16) -> Decoded
     ensures { result ≡ accumulator_of word }
 {
@@ -129,6 +133,7 @@ fn accumulator(word: u16) -> Decoded
 }
 
 // Code 7: bit 10 set is STA.
+#[tactic(auto, unfolding(crate::specs::Word::transfer_of))]
 fn transfer(word: u16) -> Decoded
     ensures { result ≡ transfer_of word }
 {
@@ -139,6 +144,7 @@ fn transfer(word: u16) -> Decoded
 }
 
 // Codes 25-27, 30 and 31, of which a part is listed.
+#[tactic(auto, unfolding(crate::specs::Word::control_of))]
 fn control(word: u16) -> Decoded
     ensures { result ≡ control_of word }
 {
@@ -173,6 +179,7 @@ fn control(word: u16) -> Decoded
 }
 
 // The operation of a code 0-6.
+#[tactic(auto, unfolding(crate::specs::Codes::operation_of))]
 pub fn operation_of(code: u16) -> Operation
     ensures { result ≡ operation_of code }
 {
@@ -198,6 +205,7 @@ pub fn operation_of(code: u16) -> Operation
 }
 
 // The operation of a code 8-14.
+#[tactic(auto, unfolding(crate::specs::Codes::immediate_of))]
 fn immediate_of(code: u16) -> ImmediateOperation
     ensures { result ≡ immediate_of code }
 {
@@ -223,6 +231,7 @@ fn immediate_of(code: u16) -> ImmediateOperation
 }
 
 // The condition of a code 16-23.
+#[tactic(auto, unfolding(crate::specs::Codes::condition_of))]
 fn condition_of(code: u16) -> Condition
     ensures { result ≡ condition_of code }
 {

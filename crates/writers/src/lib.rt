@@ -1,5 +1,7 @@
 // The list of writers (the inspector's third question, demand 3): which addresses of a program hold an instruction that can leave a cell
 // with another value.
+#![tactic(auto)]
+
 ghost use Rattle.std.specs.Prelude.{◌≡◌, ◌≤◌, length};
 ghost use Rattle.lent.specs.Lent.{over};
 ghost use Rattle.lent.specs.Outcome.{outcome};
@@ -13,13 +15,14 @@ use refusal::Refusal;
 use sh_map::map;
 use sh_state::machine::Machine;
 
-#[derive(Drop)]
+#[derive(Clone, Copy)]
 pub enum Listed {
     Count(usize),
     Refused(Refusal),
 }
 
 // Whether an address can mean a cell.
+#[tactic(auto, unfolding(crate::specs::Test::names))]
 fn names_cell(x: u16, cell: u16) -> bool
     ensures { result ≡ names x cell }
 {
@@ -30,6 +33,7 @@ fn names_cell(x: u16, cell: u16) -> bool
 }
 
 // The address that a word names.
+#[tactic(auto, unfolding(crate::specs::Bits::named_of))]
 pub fn named(word: u16) -> u16
     ensures { result ≡ named_of word }
 {
@@ -40,6 +44,7 @@ pub fn named(word: u16) -> u16
 }
 
 // A code's row: for each value of a word's bits 10-7 a bit, whether it writes what can differ.
+#[tactic(auto, unfolding(crate::specs::Bits::row_of, crate::specs::Bits::rows))]
 fn row(code: u16) -> u16
     ensures { result ≡ row_of code }
 {
@@ -66,6 +71,7 @@ fn row(code: u16) -> u16
 }
 
 // Whether what a word writes to the cell that it names can be another value.
+#[tactic(auto, unfolding(crate::specs::Bits::may_of))]
 pub fn changes(word: u16) -> bool
     ensures { result ≡ may_of word }
 {
@@ -94,6 +100,7 @@ pub fn askable(cell: u32) -> bool
 }
 
 // How many writers the list has.
+#[tactic(auto, unfolding(crate::specs::List::writers_of))]
 fn count(program: &[u16], cell: u16) -> usize
     ensures { result ≡ length (writers_of program.now cell) }
 {
@@ -109,6 +116,7 @@ fn count(program: &[u16], cell: u16) -> usize
 }
 
 // The list in the room, and its length; what stands beyond it stays.
+#[tactic(auto, unfolding(crate::specs::List::writers_of))]
 fn fill(program: &[u16], cell: u16, room: &mut [u16]) -> usize
     requires { (length program.now ≡ 4096) × (length (writers_of program.now cell) ≤ length room.old) }
     ensures { (result ≡ length (writers_of program.now cell)) × (room.new ≡ over (writers_of program.now cell) room.old) }
@@ -138,6 +146,7 @@ fn fill_counted(program: &[u16], cell: u16, room: &mut [u16]) -> Listed
 }
 
 // A room for as many addresses as there are words is filled in one pass.
+#[tactic(auto, unfolding(crate::specs::List::writers_of))]
 fn fill_room(program: &[u16], cell: u16, room: &mut [u16]) -> Listed
     requires { length program.now ≡ 4096 }
     ensures { outcome result room.new ≡ filled_of (writers_of program.now cell) room.old }

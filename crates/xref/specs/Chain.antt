@@ -10,7 +10,7 @@ pub record Held (body t : List ℕ) : Type 0 where
   pub room : 5120 ≤ length t
   pub fresh : t ≡ built_of (words_of body 4096) t
 
--- a place in a cell's chain that lies before an address and whose number leads to it or past it; there is one only (`Leads-one`)
+-- a place in a cell's chain that lies before an address and whose number leads to it or past it; there is one only (`leads_one`)
 pub record Leads (p : List ℕ) (c a i : ℕ) : Type 0 where
   pub place : i < 5120
   pub cell : cell_at p i ≡ c

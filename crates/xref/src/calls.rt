@@ -28,6 +28,7 @@ pub fn build(program: &[u8], tables: &mut [u16]) -> Outcome
 }
 
 // The writers of a cell, if the tables are the program's.
+#[tactic(auto, unfolding(crate::specs::Answer::answered_of))]
 fn answered(program: &[u8], tables: &[u16], cell: usize, room: &mut [u8]) -> Listed
     requires { (length program.now ≡ 8192) × (askable_of cell ≡ true) }
     ensures { outcome result room.new ≡ answered_of (words_of program.now 4096) tables.now cell room.old }
@@ -52,6 +53,7 @@ pub fn list(program: &[u8], tables: &[u16], cell: u32, room: &mut [u8]) -> Liste
 }
 
 // A word replaced, if the tables are the program's.
+#[tactic(auto, unfolding(crate::specs::Replace::changed_of))]
 fn changed(program: &mut [u8], tables: &mut [u16], address: usize, word: u16) -> Outcome
     requires { (length program.old ≡ 8192) × (address < 4096) }
     ensures { replaced result program.new tables.new ≡ changed_of program.old tables.old address word }

@@ -13,6 +13,7 @@ use tables::keys;
 use wire::words;
 use writers::Listed;
 
+#[tactic(auto, unfolding(crate::specs::Chain::least_of))]
 fn least(a: u16, b: u16) -> u16
     ensures { result ≡ least_of a b }
 {
@@ -23,6 +24,7 @@ fn least(a: u16, b: u16) -> u16
 }
 
 // What follows in a chain that is at an address, where the least address has been taken and is followed by another.
+#[tactic(auto, unfolding(crate::specs::Chain::after_of))]
 fn after(at: u16, taken: u16, next: u16) -> u16
     ensures { result ≡ after_of at taken next }
 {
