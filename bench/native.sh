@@ -1,37 +1,21 @@
-#!/bin/sh
-# Compiles the proved library for this processor, for measuring only: native.sh OUT.o [LEVEL], from the repository's
-# folder; LEVEL is how much the compiler does, -O3 as for the archive where none is given.
-# What ships is the kit's archive, which holds x86-64 code and stays as it is: rt proves and compiles the library once
-# more, in a repository of links, with a kit of links whose compiler first keeps a copy of the module it is handed.
+#!/usr/bin/env bash
+# Compiles the proved library for this processor, for measuring only: native.sh OUT.o [-OLEVEL], from the repository's folder. With a
+# LEVEL, from 0 to 3, it is Rattle's own compiler that does, and else the kit's clang at -O3, as for the archive.
+# What ships stays as it is: the library is built in a copy, over what checks kept.
 set -e
-kit=$(realpath "${RATTLE_HOME:-$(dirname "$(realpath "$(command -v rt)")")/..}")
-tools=on/$(uname -m)/toolchain
+. tests/edits.sh
 parts=$(mktemp -d)
 trap 'rm -rf "$parts"' EXIT
-
-# links_but NAME FOLDER: in the kit of links this folder has all that it has in the kit, but for the name.
-links_but() {
-    mkdir -p "$parts/kit/$2"
-    for file in "$kit/$2"/*; do [ "${file##*/}" = "$1" ] || ln -s "$file" "$parts/kit/$2"; done
-}
-links_but on .
-links_but toolchain "$(dirname "$tools")"
-links_but bin "$tools"
-links_but clang "$tools/bin"
-cat >"$parts/kit/$tools/bin/clang" <<END
-#!/bin/sh
-for word; do case \$word in *.bc) cp "\$word" "$parts/module.bc" ;; esac; done
-exec "$kit/$tools/bin/clang" "\$@"
-END
-chmod +x "$parts/kit/$tools/bin/clang"
-
-# What is proved of the other crates is shared.
-mkdir -p target/rlib target/stamp "$parts/repository/target"
-ln -s "$PWD/target/rlib" "$PWD/target/stamp" "$parts/repository/target"
-ln -s "$PWD/crates" "$PWD/crates.txt" "$parts/repository"
-(cd "$parts/repository" && RATTLE_HOME=$parts/kit rt staticlib host)
-
-# The module names x86-64 and a processor of it. That another is wanted is all that the compiler remarks on, so what it
-# says is shown only where it fails.
-"$kit/$tools/bin/clang" --target="$(uname -m)-linux-gnu" -fPIC "${2:--O3}" -c -x ir -o "$1" "$parts/module.bc" 2>"$parts/said" ||
-    { cat "$parts/said"; exit 1; }
+level=${2#-O}
+flags=(--target "$(uname -m)-unknown-linux-gnu")
+if [ -n "$level" ]; then
+    flags+=(--backend rattle --opt-level "$level")
+elif [ "$(uname -m)" = x86_64 ] && awk '
+    /^flags/ { for (i = 3; i <= NF; i++) has[$i] = 1; exit }
+    END { n = split("avx avx2 bmi1 bmi2 f16c fma abm movbe xsave", wanted, " "); for (i = 1; i <= n; i++) if (!(wanted[i] in has)) exit 1 }
+    ' /proc/cpuinfo; then
+    flags+=(--cpu x86-64-v3)
+fi
+room host_c "$parts/repository"
+(cd "$parts/repository/crates/host_c" && rt lib "${flags[@]}") >"$parts/said" 2>&1 || { cat "$parts/said"; exit 1; }
+ld -r -o "$1" --whole-archive "$parts/repository/crates/host_c/out/libhost_c.a"

@@ -57,6 +57,7 @@ awk -v told="$most" '
     match($3, /-0x[0-9a-f]+\(%rsp/) { n = number(substr($3, RSTART + 3, RLENGTH - 8)); if (n > below[name]) below[name] = n }
     $2 ~ /^(call|ret|jmp|push|pop)./ && $2 != "popcnt" || $3 ~ /^(call|ret|jmp)/ || $2 == "ret" && $3 { unknown() }
     $2 ~ /^(enter|leave|loop|int|iret|lret|lcall|ljmp|sys)/ || $3 == "%rsp,%rbp" { unknown() }
+    $2 == "lea" && $3 ~ /^0x[0-9a-f]+\(%rsp\),%rsp$/ { change[at] = -number(substr($3, 3, index($3, "(") - 3)); next }
     $3 ~ /^%[re]?spl?$|,%[re]?spl?$/ && $2 != "sub" && $2 != "add" { unknown() }
     $3 ~ /,%[re]?spl?$/ { change[at] = $2 == "sub" ? reserved() : -reserved(); next }
     $2 == "push" { change[at] = 8; next }

@@ -5,8 +5,27 @@
 set -u
 cd "$(dirname "$0")/.." || exit 2
 . tests/edits.sh
+# heads FILE..: a line 'NAME HEAD' for each public function: what it takes, gives and promises, in one line
+heads() {
+    cat "$@" | awk '
+        match($0, /^pub (extern "C" )?fn [a-z_0-9]+/) { fn = substr($0, RSTART, RLENGTH); sub(/.* /, "", fn); head = ""; on = 1; sub(/extern "C" /, "") }
+        on && /^\{/ { gsub(/[ \t]+/, " ", head); sub(/^ /, "", head); gsub(/\( /, "(", head); gsub(/,? \)/, ")", head); print fn, head; on = 0 }
+        on { head = head " " $0 }'
+}
+
 for crate in crates/*/; do
     name=$(basename "$crate")
+    if [ "$name" = host_c ]; then
+        # the exports for C: each promises what the function of its name in host does, and its row is that one's
+        calls=$(heads crates/host/src/*.rt)
+        while read -r fn head; do
+            if printf '%s\n' "$calls" | grep -qxF "$fn $head"; then holds; else fails "host_c: $fn does not say what host does of it"; fi
+        done < <(heads "$crate"src/*.rt)
+        # and there is one for each call that the header declares
+        declared=$(grep -oE '^uint32_t galhoveia_[a-z_]+' desk/galhoveia.h | sed 's/.* //' | sort)
+        if [ "$declared" = "$(heads "$crate"src/*.rt | sed 's/ .*//' | sort)" ]; then holds; else fails "host_c: the exports are not the header's calls"; fi
+        continue
+    fi
     section=$(awk -v s="## \`$name\`" '$0 == s { on = 1; next } /^## / { on = 0 } on' docs/STATEMENTS.md)
     for file in "$crate"src/*.rt; do
         module=$(basename "$file" .rt)
