@@ -1,7 +1,7 @@
 /* Galhoveia: a proved emulator of the 4-bit controller SH67P54, for C and C++.
 
    Once installed (make install), pkg-config tells how to compile and link with it: cc program.c $(pkg-config --cflags
-   --libs galhoveia). In the repository the archive is target/staticlib/libhost.a (x86-64 code), which `make archive`
+   --libs galhoveia). In the repository the archive is build/libhost.a (x86-64 code), which `make archive`
    builds. The library keeps nothing between calls: the chip's program, its memory and its registers stay with the
    caller and are lent to each call as bytes, the tables of a cross-reference as numbers.
 
@@ -76,8 +76,7 @@ extern "C" {
 #define GALHOVEIA_XREF_NUMBERS   5120 /* the tables of a cross-reference: a number for each cell and each word */
 #define GALHOVEIA_XREF_NONE      4096 /* in the tables: no address */
 #define GALHOVEIA_XREF_POINTED   0x00F /* the cell under which the tables keep the writers through $00F */
-#define GALHOVEIA_DIGEST_BYTES   32
-#define GALHOVEIA_STACK_BYTES_MOST 19344
+#define GALHOVEIA_STACK_BYTES_MOST 16488
 
 /* The answer of every call. Where several refusals apply, the lowest number is told, but 7 only where nothing else
    applies, and in galhoveia_level 10 and 11 come before 9. */
@@ -301,10 +300,6 @@ uint32_t galhoveia_listing_write(const uint8_t *program, size_t program_len, uin
    with 0, a text whose last line feed is missing 26 with 4095, and one with anything behind 4,096 good lines 26 with
    4096. */
 uint32_t galhoveia_listing_read(const uint8_t *text, size_t text_len, uint8_t *program, size_t room, uint64_t *value);
-
-/* Digests bytes by SHA-256 (FIPS 180-4), as sha256sum does: GALHOVEIA_DIGEST_BYTES bytes are written, and those beyond
-   them stay. Can answer 7. */
-uint32_t galhoveia_digest(const uint8_t *bytes, size_t bytes_len, uint8_t *digest, size_t room, uint64_t *value);
 
 #ifdef __cplusplus
 }

@@ -156,7 +156,7 @@ static const struct {
      "cannot work with is refused by a number, and a refusal changes nothing; only a run that meets a word that is no "
      "instruction keeps what the events before it did.",
      "<code>crates/refusal/specs/Refusal.antt</code> <code>crates/call_run/specs/Run.antt</code>",
-     "<code>crates/call_run/proofs/run</code> <code>crates/call_run/proofs/Leaves.antt</code> "
+     "<code>crates/call_run/src/lib.rt</code> <code>crates/call_run/proofs/Leaves.antt</code> "
      "<code>crates/host/proofs/Leaves.antt</code>"},
     {"<strong>Each event moves the chip exactly</strong> as the data sheet\u2019s instruction table, the scope "
      "document and the requests that changed it say; a run is one event after the other. Picture and level are read "
