@@ -163,8 +163,8 @@ static const struct {
      "off the state as defined: a level is 8 \u00D7 high digit + low digit, less the ground stop\u2019s code.",
      "<code>crates/sh_cycle/specs/Cycle.antt</code> <code>crates/sh_run/specs/Run.antt</code> "
      "<code>crates/picture/specs/Picture.antt</code> <code>crates/level/specs/Level.antt</code>",
-     "<code>crates/sh_events/proofs/event</code> <code>crates/sh_run/proofs/run</code> "
-     "<code>crates/picture/proofs/picture</code> <code>crates/level/proofs/level</code>"},
+     "<code>crates/sh_events/src/event.rt</code> <code>crates/sh_run/proofs/run</code> "
+     "<code>crates/picture/src/lib.rt</code> <code>crates/level/src/lib.rt</code>"},
     {"<strong>The list of writers is exact</strong>, and no digit comes from elsewhere: where a run leaves a data, "
      "display or scan cell with another value, an instruction of its list put it there. The cross-reference answers "
      "the same lists.",

@@ -51,7 +51,17 @@ for crate in crates/*/; do
         # a path begins with its module, and is of the crate's root where it has none
         module=$crate/src/${row%%::*}.rt
         [ -e "$module" ] || module=$crate/src/lib.rt
-        if grep -qE "^[ \t]*pub (extern \"C\" )?fn ${row##*::}\(" "$module"; then holds; else fails "$name: $row has a row in docs/STATEMENTS.md and is no public function there"; fi
+        if grep -qE "^[ \t]*pub (extern \"C\" )?fn ${row##*::}[(<]" "$module"; then
+            holds
+        elif awk -v trait="${row%%::*}" -v fn="${row##*::}" '
+            $0 ~ "^pub trait " trait "[ :<]" { on = 1 }
+            on && $0 ~ "^    fn " fn "[(<]" { found = 1 }
+            /^}/ { on = 0 }
+            END { exit !found }' "$module"; then
+            # a public trait's function
+            holds
+        else fails "$name: $row has a row in docs/STATEMENTS.md and is no public function there"
+        fi
     done
     for edit in $(edits_of "$name"); do
         # wrong answers that are tried together are told apart by where they are refused

@@ -2,7 +2,7 @@
 #![tactic(auto)]
 
 ghost use Rattle.std.specs.Prelude.{◌≡◌};
-ghost use Rattle.alu.specs.Alu.{sum_of, added_of, calculated_of, loaded_of, decimal_added_of, six_more_of, decimal_subtracted_of, shifted_right_of};
+ghost use Rattle.alu.specs.Alu.{sum_of, added_of, calculated_of, loaded_of, decimal_added_of, decimal_subtracted_of, shifted_right_of};
 
 use word::Operation;
 
@@ -13,7 +13,7 @@ pub struct Sum {
     pub carry: u8,
 }
 
-// A result of its two parts.
+// A result of its two parts: a literal would take four lines in each place.
 fn sum_of(value: u8, carry: u8) -> Sum
     ensures { result ≡ sum_of value carry }
 {
@@ -57,20 +57,11 @@ pub fn loaded(cell: u8, cy: u8) -> Sum
 pub fn decimal_added(value: u8, cy: u8) -> Sum
     ensures { result ≡ decimal_added_of value cy }
 {
-    if value > 9 {
-        return six_more(value);
+    if value > 9 || cy == 1 {
+        sum_of(((value as u16 + 6) % 16) as u8, 1)
+    } else {
+        sum_of(value, cy)
     }
-    if cy == 1 {
-        return six_more(value);
-    }
-    sum_of(value, cy)
-}
-
-// 6 more in four bits, with a carry.
-fn six_more(value: u8) -> Sum
-    ensures { result ≡ six_more_of value }
-{
-    sum_of(((value as u16 + 6) % 16) as u8, 1)
 }
 
 // DAS: decimal adjust for sub.
@@ -79,9 +70,10 @@ pub fn decimal_subtracted(value: u8, cy: u8) -> Sum
     ensures { result ≡ decimal_subtracted_of value cy }
 {
     if cy == 0 {
-        return sum_of(((value as u16 + 10) % 16) as u8, cy);
+        sum_of(((value as u16 + 10) % 16) as u8, cy)
+    } else {
+        sum_of(value, cy)
     }
-    sum_of(value, cy)
 }
 
 // SHR: 0 into bit 3, bit 0 into CY.

@@ -1,4 +1,5 @@
 -- What a body that is not turned down says of its length.
+use Rattle.std.specs.Prelude.{Ok}
 use mathlib.Core.Path.{◌≡◌, refl, sym}
 use mathlib.Core.Bool.{Bool, true, false}
 use Prim.Native.Nat.{ℕ, ◌/◌, ◌%◌, ◌≤◌}
@@ -7,10 +8,9 @@ use lib.Dec.{ltb, eqb}
 use borrow.Author.Tests.{ltb-true, ltb-false, eqb-true}
 use Rattle.lent.specs.Lent.{pick}
 use Rattle.refusal.specs.declared.Refusal.{Refusal}
-use Rattle.sh_rules.specs.declared.judge.Judged.TheVariants.{Fine}
 use Rattle.body.specs.Body.{wiring_length_fits, length_fits, told}
 
-pub told_fine : (t : Bool) (why : Refusal) → told t why ≡ Fine → t ≡ true
+pub told_fine : (t : Bool) (why : Refusal) → told t why ≡ Ok tt → t ≡ true
 unfolding told
 told_fine true why e = refl
 told_fine false why e = cc

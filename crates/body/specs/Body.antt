@@ -1,12 +1,18 @@
 -- The rules of a book's bodies (01, "Panel book"): how long a body of each kind is, which values it holds, and what it is turned down for.
-use Rattle.std.specs.Prelude.{ℕ, zero, suc, ◌+◌, ◌*◌, ◌/◌, ◌%◌, Bool, true, false, not, List, ltb, eqb, length}
+use Rattle.std.specs.Prelude.{ℕ, zero, suc, ◌+◌, ◌*◌, ◌/◌, ◌%◌, Bool, true, false, not, List, ltb, eqb, length, Err, Ok, Result}
 use Rattle.lent.specs.Lent.{pick, both, at, pair_at_of}
 use Rattle.refusal.specs.declared.Refusal.{Refusal}
 use Rattle.refusal.specs.declared.Refusal.TheVariants as refusal
-use Rattle.sh_rules.specs.declared.judge.Judged.{Judged}
-use Rattle.sh_rules.specs.declared.judge.Judged.TheVariants.{Fine, Refused}
 use Rattle.sh_rules.specs.Judge.{first_of}
 use Rattle.sh_map.specs.Map.{askable_of, display_of}
+use Rattle.body.specs.declared.Kind.{Kind}
+use Rattle.body.specs.declared.Kind.TheVariants.{Program, Wiring, Level}
+
+-- "for kinds 1, 2, 3": programs, wirings and levels
+abbrev pub kind_number : Kind → ℕ
+kind_number Program = 1
+kind_number Wiring = 2
+kind_number Level = 3
 
 -- "1-240 elements of 3 bytes"
 unfoldable pub wiring_length_fits : ℕ → Bool
@@ -53,19 +59,19 @@ level_fits level =
     (both (not (eqb (high_cell level) (low_cell level))) (ltb (ground_code level) 64))
 
 -- a judgement by one test
-unfoldable pub told : Bool → Refusal → Judged
-told fits why = pick fits Fine (Refused why)
+unfoldable pub told : Bool → Refusal → Result (Unit {0}) Refusal
+told fits why = pick fits (Ok tt) (Err why)
 
 -- 11 with the body's kind, "in a book the lowest kind"; any program's words are taken
-unfoldable pub values_judged : List ℕ → List ℕ → Judged
+unfoldable pub values_judged : List ℕ → List ℕ → Result (Unit {0}) Refusal
 values_judged wiring level =
     first_of (told (wiring_fits wiring) (refusal.Body 2)) (told (level_fits level) (refusal.Body 3))
 
 -- "these .. answer 10 for a wrong body length, 11 for a bad body"
-unfoldable pub wiring_judged : List ℕ → Judged
+unfoldable pub wiring_judged : List ℕ → Result (Unit {0}) Refusal
 wiring_judged wiring =
     first_of (told (length_fits 2 (length wiring)) refusal.Contents) (told (wiring_fits wiring) (refusal.Body 2))
 
-unfoldable pub level_judged : List ℕ → Judged
+unfoldable pub level_judged : List ℕ → Result (Unit {0}) Refusal
 level_judged level =
     first_of (told (length_fits 3 (length level)) refusal.Contents) (told (level_fits level) (refusal.Body 3))

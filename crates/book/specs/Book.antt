@@ -1,16 +1,13 @@
 -- A panel book as a file (01, "Panel book"): what its contents say, and what it is turned down for.
-use Rattle.std.specs.Prelude.{ℕ, ◌+◌, Bool, List, eqb, length, take, drop}
+use Rattle.std.specs.Prelude.{ℕ, ◌+◌, Bool, List, eqb, length, take, drop, Err, Ok, Result}
 use Rattle.lent.specs.Lent.{both, at, pair_at_of}
 use Rattle.refusal.specs.declared.Refusal.TheVariants as refusal
-use Rattle.sh_rules.specs.declared.judge.Judged.{Judged}
-use Rattle.sh_rules.specs.declared.judge.Judged.TheVariants as judged
 use Rattle.sh_rules.specs.Judge.{first_of}
 use Rattle.book.specs.declared.Place.{Place}
 use Rattle.book.specs.declared.Parts.{Parts}
-use Rattle.book.specs.declared.Reading.{Reading}
-use Rattle.book.specs.declared.Reading.TheVariants as reading
 use Rattle.body.specs.Body.{length_fits, told, values_judged}
 use Rattle.refusal.specs.Told.{Said, done_told, refused_told}
+use Rattle.refusal.specs.declared.Refusal.{Refusal}
 
 -- the bytes of a file from an offset on, as many as there are
 unfoldable pub part_of : List ℕ → ℕ → ℕ → List ℕ
@@ -66,19 +63,19 @@ contents_fit l =
     (eqb (length l) ((parts_of l).level.offset + (parts_of l).level.length)))))
 
 -- 10, then 11
-unfoldable pub book_judged : List ℕ → Judged
+unfoldable pub book_judged : List ℕ → Result (Unit {0}) Refusal
 book_judged l =
     first_of (told (contents_fit l) refusal.Contents)
     (values_judged
     (part_of l (parts_of l).wiring.offset (parts_of l).wiring.length)
     (part_of l (parts_of l).level.offset (parts_of l).level.length))
 
-unfoldable pub reading_of : Judged → Parts → Reading
-reading_of judged.Fine p = reading.Parts p
-reading_of (judged.Refused why) p = reading.Refused why
+unfoldable pub reading_of : Result (Unit {0}) Refusal → Parts → Result Parts Refusal
+reading_of (Ok tt) p = Ok p
+reading_of (Err why) p = Err why
 
 -- THE READER: where each body lies, or the refusal
-unfoldable pub read_of : List ℕ → Reading
+unfoldable pub read_of : List ℕ → Result Parts Refusal
 read_of l = reading_of (book_judged l) (parts_of l)
 
 -- a body of a file, by its place
@@ -93,6 +90,6 @@ pub record Found : Type 0 where
 abbrev pub found : Said → Parts → Found
 found t p = record { told = t; parts = p }
 
-unfoldable pub reading_told : Reading → Parts → Found
-reading_told (reading.Parts p) old = found done_told p
-reading_told (reading.Refused why) old = found (refused_told why) old
+unfoldable pub reading_told : Result Parts Refusal → Parts → Found
+reading_told (Ok p) old = found done_told p
+reading_told (Err why) old = found (refused_told why) old

@@ -1,8 +1,9 @@
 -- A byte of the contents of a good book changed to any other value is refused by 10: the file's length alone tells its contents.
+use Rattle.std.specs.Prelude.{Err, Ok}
 use mathlib.Core.Path.{◌≡◌, ◌∙◌, ap, sym}
 use mathlib.Core.Bool.{false}
 use mathlib.Core.List.{List}
-use Prim.Native.Nat.{ℕ, ◌-◌, ◌<◌}
+use Prim.Native.Nat.{ℕ, ◌<◌}
 use native.Mathlib.Omega.{arith}
 use lib.ListN.{length, take, set, length-set}
 use lib.Seq.{get_or-take, get_or-set_same, get_or-set_other}
@@ -13,7 +14,6 @@ use Rattle.lent.proofs.Laws.{test}
 use Rattle.refusal.specs.declared.Refusal.TheVariants as refusal
 use Rattle.sh_rules.specs.Judge.{first_of}
 use Rattle.book.specs.declared.Parts.{Parts}
-use Rattle.book.specs.declared.Reading.TheVariants as reading
 use Rattle.body.specs.Body.{told}
 use Rattle.book.specs.Book.{length_at, contents_fit, book_judged, reading_of, read_of}
 use Rattle.book_write.specs.Writing.{contents_of, AllBytes}
@@ -32,13 +32,13 @@ set_bytes l i v h k b j =
     (λ t. let e = eqb-true j i t in rw (e, get_or-set_same l i v 0 k) b)
     (λ t. rw (get_or-set_other l i j v 0 (eqb-false j i t)) (h j))
 
-refused_by_lem : (l : List ℕ) → contents_fit l ≡ false → read_of l ≡ reading.Refused refusal.Contents
+refused_by_lem : (l : List ℕ) → contents_fit l ≡ false → read_of l ≡ Err refusal.Contents
 unfolding read_of book_judged reading_of first_of told
 refused_by_lem l e = rw e
 
 -- EVERY BYTE OF THE CONTENTS, EVERY OTHER VALUE
-pub damage_refused : (l : List ℕ) → AllBytes l → (ps : Parts) → read_of l ≡ reading.Parts ps
-    → (i v : ℕ) → i < 16 → v < 256 → (v ≡ at l i → ⊥) → read_of (set l i v) ≡ reading.Refused refusal.Contents
+pub damage_refused : (l : List ℕ) → AllBytes l → (ps : Parts) → read_of l ≡ Ok ps
+    → (i v : ℕ) → i < 16 → v < 256 → (v ≡ at l i → ⊥) → read_of (set l i v) ≡ Err refusal.Contents
 damage_refused l h ps e i v k b other =
     let c = contents_fine l ps e in
     let m : i < length l = omega (arith, c.ends) in

@@ -1,4 +1,5 @@
 -- What three bodies that are not turned down are.
+use Rattle.std.specs.Prelude.{Ok}
 use mathlib.Core.Path.{◌≡◌}
 use mathlib.Core.Bool.{true}
 use mathlib.Core.List.{List}
@@ -7,14 +8,13 @@ use native.Mathlib.Omega.{arith}
 use lib.ListN.{length}
 use Rattle.lent.specs.Lent.{both}
 use Rattle.lent.proofs.Laws.{both_true}
-use Rattle.sh_rules.specs.declared.judge.Judged.TheVariants.{Fine}
 use Rattle.sh_rules.proofs.Laws.{first_fine}
 use Rattle.body.specs.Body.{length_fits, values_judged}
 use Rattle.body.proofs.Fine.{told_fine, wiring_length, program_length, level_length}
 use Rattle.book_write.specs.Writing.{bodies_judged, Lengths}
 
 -- bodies that are not turned down
-module _ (p w v : List ℕ) (e : bodies_judged p w v ≡ Fine) where
+module _ (p w v : List ℕ) (e : bodies_judged p w v ≡ Ok tt) where
   pub fine_fits : (length_fits 1 (length p) ≡ true) × ((length_fits 2 (length w) ≡ true) × (length_fits 3 (length v) ≡ true))
   unfolding bodies_judged
   fine_fits =
@@ -23,7 +23,7 @@ module _ (p w v : List ℕ) (e : bodies_judged p w v ≡ Fine) where
       let b = both_true (length_fits 2 (length w)) (length_fits 3 (length v)) a.1 in
       (a.0, (b.0, b.1))
 
-  pub fine_values : values_judged w v ≡ Fine
+  pub fine_values : values_judged w v ≡ Ok tt
   unfolding bodies_judged
   fine_values = (first_fine _ _ e).1
 

@@ -1,4 +1,3 @@
-pub mod Laws
 pub mod Fine
 pub mod Puts
 pub mod Header

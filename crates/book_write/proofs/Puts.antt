@@ -1,14 +1,13 @@
 -- How a book comes into a room: the contents, and the bodies behind each other, are the book.
+use Rattle.std.specs.Prelude.{Ok}
 use mathlib.Core.Path.{◌≡◌, ◌∙◌, refl, ap}
 use mathlib.Core.List.{List, ◌++◌}
-use Prim.Native.Nat.{ℕ, ◌+◌, ◌<◌, ◌≤◌}
+use Prim.Native.Nat.{ℕ, ◌+◌, ◌≤◌}
 use native.Mathlib.Omega.{arith}
 use lib.ListN.{length, length-append}
-use borrow.Author.Tests.{lt-ltb, le-ltb}
+use borrow.Author.Tests.{le-ltb}
 use Rattle.lent.specs.Lent.{pasted_of}
 use Rattle.lent.proofs.Laws.{pasted_on}
-use Rattle.refusal.specs.declared.Refusal.TheVariants.{Room}
-use Rattle.book_write.specs.declared.Written.TheVariants.{Bytes, Refused}
 use Rattle.lent.specs.Outcome.{outcome}
 use Rattle.book_write.specs.Writing.{contents_of, book_of, bodies_put, put_of}
 
@@ -38,11 +37,6 @@ pub book_filled : (p w v r head m s : List ℕ) → head ≡ contents_of (length
 book_filled p w v r head m s e f g h =
     g ∙ (ap (bodies_put p w v) (f ∙ ap (pasted_of r 0) e) ∙ book_put p w v r h)
 
-module _ (b r : List ℕ) (n : ℕ) (e : n ≡ length b) where
-  pub put_short : length r < n → outcome (Refused (Room n)) r ≡ put_of b r
-  unfolding put_of
-  put_short h = rw (lt-ltb (length r) (length b) (omega arith), e)
-
-  pub put_fits : (s : List ℕ) → n ≤ length r → s ≡ pasted_of r 0 b → outcome (Bytes n) s ≡ put_of b r
-  unfolding put_of
-  put_fits s h f = rw (le-ltb (length r) (length b) (omega arith), e, f)
+pub put_fits : (b r : List ℕ) (n : ℕ) → n ≡ length b → (s : List ℕ) → n ≤ length r → s ≡ pasted_of r 0 b → outcome (Ok n) s ≡ put_of b r
+unfolding put_of
+put_fits b r n e s h f = rw (le-ltb (length r) (length b) (omega arith), e, f)

@@ -1,8 +1,9 @@
 -- Nothing is lost either way: what is written reads back as the same three bodies, and a file that is accepted is what the writer gives for its bodies.
+use Rattle.std.specs.Prelude.{Err, Ok, Result}
 use mathlib.Core.Path.{◌≡◌, ◌∙◌, refl, ap, sym}
 use mathlib.Core.Bool.{Bool, true, false}
 use mathlib.Core.List.{List, ◌++◌, append_assoc}
-use Prim.Native.Nat.{ℕ, ◌+◌, ◌-◌, ◌≤◌}
+use Prim.Native.Nat.{ℕ, ◌+◌, ◌≤◌}
 use native.Mathlib.Omega.{arith}
 use lib.Dec.{ltb}
 use lib.ListN.{length, take, drop, length-append, length-drop}
@@ -11,12 +12,8 @@ use borrow.Author.Tests.{ltb-false}
 use Rattle.lent.specs.Lent.{at, pick, pair_at_of, pasted_of}
 use Rattle.lent.proofs.Laws.{pasted_front}
 use Rattle.refusal.specs.declared.Refusal.TheVariants as refusal
-use Rattle.sh_rules.specs.declared.judge.Judged.{Judged}
-use Rattle.sh_rules.specs.declared.judge.Judged.TheVariants as judged
 use Rattle.sh_rules.specs.Judge.{first_of}
 use Rattle.book.specs.declared.Parts.{Parts}
-use Rattle.book.specs.declared.Reading.TheVariants as reading
-use Rattle.book_write.specs.declared.Written.TheVariants as written
 use Rattle.lent.specs.Outcome.{outcome}
 use Rattle.body.specs.Body.{told, values_judged}
 use Rattle.book.specs.Book.{place, part_of, length_at, parts_of, book_judged, reading_of, read_of, body_in}
@@ -26,6 +23,7 @@ use Rattle.body.proofs.Fine.{told_fine}
 use Rattle.book_write.proofs.Fine.{fine_fits, fine_values, fine_lengths}
 use Rattle.book_write.proofs.Puts.{contents_length_lem, book_length, put_fits}
 use Rattle.book_write.proofs.Header.{Entry, Contents, contents_told, contents_right, pair_back, program_told, level_told, header_told}
+use Rattle.refusal.specs.declared.Refusal.{Refusal}
 
 -- ---- what is written reads back
 
@@ -49,7 +47,7 @@ module _ (h p w v : List ℕ) (n : ℕ) (e : length h ≡ n) where
       ap (take (length v)) (drop_at (h ++ p ++ w) v (n + length p + length w) (omega (arith, length-append h p, length-append (h ++ p) w)))
       ∙ take-length v
 
-module _ (p w v : List ℕ) (e : bodies_judged p w v ≡ judged.Fine) where
+module _ (p w v : List ℕ) (e : bodies_judged p w v ≡ Ok tt) where
   book_program : length_at (book_of p w v) 1 ≡ length p
   unfolding book_of contents_of length_at pair_at_of
   book_program = pair_back (length p) (omega (arith, (fine_lengths p w v e).program))
@@ -111,7 +109,7 @@ module _ (p w v : List ℕ) (e : bodies_judged p w v ≡ judged.Fine) where
   unfolding book_of
   book_third = part_third (contents_of (length p) (length w) (length v)) p w v 16 (contents_length_lem (length p) (length w) (length v))
 
-  book_fine : book_judged (book_of p w v) ≡ judged.Fine
+  book_fine : book_judged (book_of p w v) ≡ Ok tt
   unfolding book_judged placed first_of told
   book_fine = rw (contents_right (book_of p w v) book_contents, book_parts, book_second, book_third) (fine_values p w v e)
 
@@ -120,21 +118,21 @@ module _ (p w v : List ℕ) (e : bodies_judged p w v ≡ judged.Fine) where
   book_holds = record { parts = placed; reads = rw (book_fine, book_parts); program = book_first; wiring = book_second; level = book_third }
 
 -- a judgement that writes is fine, and the room then starts with the book
-written_fine : (j : Judged) (b r : List ℕ) (n : ℕ) → (written_of j b r).answer ≡ written.Bytes n → (j ≡ judged.Fine) × (take n (written_of j b r).room ≡ b)
+written_fine : (j : Result (Unit {0}) Refusal) (b r : List ℕ) (n : ℕ) → (written_of j b r).answer ≡ Ok n → (j ≡ Ok tt) × (take n (written_of j b r).room ≡ b)
 unfolding written_of put_of
-written_fine judged.Fine b r n e = (refl, go (ltb (length r) (length b)) refl e)
+written_fine (Ok tt) b r n e = (refl, go (ltb (length r) (length b)) refl e)
   where
     go : (t : Bool) → ltb (length r) (length b) ≡ t
-        → (pick t (outcome (written.Refused (refusal.Room (length b))) r) (outcome (written.Bytes (length b)) (pasted_of r 0 b))).answer ≡ written.Bytes n
-        → take n (pick t (outcome (written.Refused (refusal.Room (length b))) r) (outcome (written.Bytes (length b)) (pasted_of r 0 b))).room ≡ b
+        → (pick t (outcome (Err (refusal.Room (length b))) r) (outcome (Ok (length b)) (pasted_of r 0 b))).answer ≡ Ok n
+        → take n (pick t (outcome (Err (refusal.Room (length b))) r) (outcome (Ok (length b)) (pasted_of r 0 b))).room ≡ b
     go true h f = cc
     go false h f =
         let m : length b ≡ n = cc in
         ap (take n) (pasted_front r b (ltb-false (length r) (length b) h)) ∙ take_at b (drop (length b) r) n m
-written_fine (judged.Refused why) b r n e = (cc, cc)
+written_fine (Err why) b r n e = (cc, cc)
 
 -- WHAT IS WRITTEN READS BACK: the bytes that the writer counts hold the same three bodies
-pub read_written : (p w v room : List ℕ) (n : ℕ) → (write_of p w v room).answer ≡ written.Bytes n → Holds (take n (write_of p w v room).room) p w v
+pub read_written : (p w v room : List ℕ) (n : ℕ) → (write_of p w v room).answer ≡ Ok n → Holds (take n (write_of p w v room).room) p w v
 unfolding write_of
 read_written p w v room n e =
     let f = written_fine (bodies_judged p w v) (book_of p w v) room n e in
@@ -142,10 +140,10 @@ read_written p w v room n e =
 
 -- ---- what is accepted is what the writer gives
 
-reading_fine : (j : Judged) (q ps : Parts) → reading_of j q ≡ reading.Parts ps → (j ≡ judged.Fine) × (q ≡ ps)
+reading_fine : (j : Result (Unit {0}) Refusal) (q ps : Parts) → reading_of j q ≡ Ok ps → (j ≡ Ok tt) × (q ≡ ps)
 unfolding reading_of
-reading_fine judged.Fine q ps e = (refl, cc)
-reading_fine (judged.Refused why) q ps e = (cc, cc)
+reading_fine (Ok tt) q ps e = (refl, cc)
+reading_fine (Err why) q ps e = (cc, cc)
 
 -- the three bodies by the lengths that the contents give
 abbrev first : List ℕ → List ℕ
@@ -157,8 +155,8 @@ second l = part_of l (16 + length_at l 1) (length_at l 6)
 abbrev third : List ℕ → List ℕ
 third l = part_of l (16 + length_at l 1 + length_at l 6) (length_at l 11)
 
-module _ (l : List ℕ) (ps : Parts) (e : read_of l ≡ reading.Parts ps) where
-  accepted : (book_judged l ≡ judged.Fine) × (parts_of l ≡ ps)
+module _ (l : List ℕ) (ps : Parts) (e : read_of l ≡ Ok ps) where
+  accepted : (book_judged l ≡ Ok tt) × (parts_of l ≡ ps)
   unfolding read_of
   accepted = reading_fine (book_judged l) (parts_of l) ps e
 
@@ -166,7 +164,7 @@ module _ (l : List ℕ) (ps : Parts) (e : read_of l ≡ reading.Parts ps) where
   unfolding book_judged
   contents_fine = contents_told l (told_fine _ _ (first_fine _ _ accepted.0).0)
 
-  values_fine : values_judged (second l) (third l) ≡ judged.Fine
+  values_fine : values_judged (second l) (third l) ≡ Ok tt
   unfolding book_judged parts_of
   values_fine = (first_fine _ _ accepted.0).1
 
@@ -198,7 +196,7 @@ module _ (l : List ℕ) (ps : Parts) (e : read_of l ≡ reading.Parts ps) where
       ap (λ (t : List ℕ). t ++ first l ++ second l ++ third l) (header h)
       ∙ in_row (length_at l 1) (length_at l 6) (length_at l 11) contents_fine.ends
 
-  bodies_again : bodies_judged (first l) (second l) (third l) ≡ judged.Fine
+  bodies_again : bodies_judged (first l) (second l) (third l) ≡ Ok tt
   unfolding bodies_judged first_of told
   bodies_again =
       rw (first_length, second_length, third_length, contents_fine.program.fits, contents_fine.wiring.fits, contents_fine.level.fits) values_fine
@@ -208,13 +206,13 @@ module _ (l : List ℕ) (ps : Parts) (e : read_of l ≡ reading.Parts ps) where
   unfolding parts_of
   book_of_parts h = rw (← accepted.1) (book_again h)
 
-  parts_fine : bodies_judged (body_in l ps.program) (body_in l ps.wiring) (body_in l ps.level) ≡ judged.Fine
+  parts_fine : bodies_judged (body_in l ps.program) (body_in l ps.wiring) (body_in l ps.level) ≡ Ok tt
   unfolding parts_of
   parts_fine = rw (← accepted.1) bodies_again
 
   -- WHAT IS ACCEPTED IS WHAT THE WRITER GIVES for its bodies
   pub written_read : AllBytes l → (room : List ℕ) → length l ≤ length room
-      → write_of (body_in l ps.program) (body_in l ps.wiring) (body_in l ps.level) room ≡ outcome (written.Bytes (length l)) (pasted_of room 0 l)
+      → write_of (body_in l ps.program) (body_in l ps.wiring) (body_in l ps.level) room ≡ outcome (Ok (length l)) (pasted_of room 0 l)
   unfolding write_of written_of
   written_read h room k = rw (parts_fine, book_of_parts h) (sym (put_fits l room (length l) refl (pasted_of room 0 l) k refl))
 

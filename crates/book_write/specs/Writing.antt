@@ -1,18 +1,14 @@
 -- How a panel book is written (01, "Panel book"), and what a file holds.
-use Rattle.std.specs.Prelude.{ℕ, ◌+◌, ◌/◌, ◌%◌, ◌≤◌, ◌<◌, ◌≡◌, List, [], ◌∷◌, ◌++◌, ltb, length}
+use Rattle.std.specs.Prelude.{ℕ, ◌+◌, ◌/◌, ◌%◌, ◌≤◌, ◌<◌, ◌≡◌, List, [], ◌∷◌, ◌++◌, ltb, length, Err, Ok, Result}
 use Rattle.lent.specs.Lent.{pick, both, at, pasted_of}
 use Rattle.refusal.specs.declared.Refusal.TheVariants as refusal
-use Rattle.sh_rules.specs.declared.judge.Judged.{Judged}
-use Rattle.sh_rules.specs.declared.judge.Judged.TheVariants as judged
 use Rattle.sh_rules.specs.Judge.{first_of}
 use Rattle.book.specs.declared.Parts.{Parts}
-use Rattle.book.specs.declared.Reading.TheVariants as reading
-use Rattle.book_write.specs.declared.Written.{Written}
-use Rattle.book_write.specs.declared.Written.TheVariants as written
 use Rattle.lent.specs.Outcome.{Outcome, outcome}
 use Rattle.body.specs.Body.{length_fits, told, values_judged}
 use Rattle.book.specs.Book.{contents_length, read_of, body_in}
 use Rattle.refusal.specs.Told.{Counted, counted, done_told, refused_told}
+use Rattle.refusal.specs.declared.Refusal.{Refusal}
 
 -- a number's two bytes, "high byte first"
 abbrev pub high : ℕ → ℕ
@@ -36,7 +32,7 @@ unfoldable pub book_of : List ℕ → List ℕ → List ℕ → List ℕ
 book_of program wiring level = contents_of (length program) (length wiring) (length level) ++ program ++ wiring ++ level
 
 -- 10 for a wrong body length, then 11 for a bad body
-unfoldable pub bodies_judged : List ℕ → List ℕ → List ℕ → Judged
+unfoldable pub bodies_judged : List ℕ → List ℕ → List ℕ → Result (Unit {0}) Refusal
 bodies_judged program wiring level =
     first_of
     (told
@@ -59,25 +55,25 @@ bodies_put program wiring level room =
     level
 
 -- 7, last of all; "Bytes beyond what is written stay"
-unfoldable pub put_of : List ℕ → List ℕ → Outcome Written
+unfoldable pub put_of : List ℕ → List ℕ → Outcome (Result ℕ Refusal)
 put_of book room =
     pick (ltb (length room) (length book))
-    (outcome (written.Refused (refusal.Room (length book))) room)
-    (outcome (written.Bytes (length book)) (pasted_of room 0 book))
+    (outcome (Err (refusal.Room (length book))) room)
+    (outcome (Ok (length book)) (pasted_of room 0 book))
 
-unfoldable pub written_of : Judged → List ℕ → List ℕ → Outcome Written
-written_of judged.Fine book room = put_of book room
-written_of (judged.Refused why) book room = outcome (written.Refused why) room
+unfoldable pub written_of : Result (Unit {0}) Refusal → List ℕ → List ℕ → Outcome (Result ℕ Refusal)
+written_of (Ok tt) book room = put_of book room
+written_of (Err why) book room = outcome (Err why) room
 
 -- THE WRITER: its answer and what the room then holds
-unfoldable pub write_of : List ℕ → List ℕ → List ℕ → List ℕ → Outcome Written
+unfoldable pub write_of : List ℕ → List ℕ → List ℕ → List ℕ → Outcome (Result ℕ Refusal)
 write_of program wiring level room =
     written_of (bodies_judged program wiring level) (book_of program wiring level) room
 
 -- a file that is accepted, and its three bodies
 pub record Holds (l p w v : List ℕ) : Type 0 where
   pub parts : Parts
-  pub reads : read_of l ≡ reading.Parts parts
+  pub reads : read_of l ≡ Ok parts
   pub program : body_in l parts.program ≡ p
   pub wiring : body_in l parts.wiring ≡ w
   pub level : body_in l parts.level ≡ v
@@ -87,6 +83,6 @@ abbrev pub AllBytes : List ℕ → Type 0
 AllBytes l = (i : ℕ) → at l i < 256
 
 -- what is told of a writing: how many bytes, beside
-unfoldable pub written_told : Written → ℕ → Counted
-written_told (written.Bytes n) count = counted done_told n
-written_told (written.Refused why) count = counted (refused_told why) count
+unfoldable pub written_told : Result ℕ Refusal → ℕ → Counted
+written_told (Ok n) count = counted done_told n
+written_told (Err why) count = counted (refused_told why) count

@@ -1,12 +1,11 @@
 -- The call fresh: 2, then 12; else a fresh machine, and its memory in the lent one (01, "Reset").
-use Rattle.std.specs.Prelude.{ℕ, List, ltb, eqb, length, replicate}
+use Rattle.std.specs.Prelude.{ℕ, List, ltb, eqb, length, replicate, Ok}
 use Rattle.lent.specs.Lent.{pick}
 use Rattle.refusal.specs.declared.Refusal.TheVariants.{MemoryLength, Options}
 use Rattle.sh_state.specs.Record.{fresh_of}
 use Rattle.sh_state.specs.State.{state}
 use Rattle.sh_reset.specs.declared.reset.Column.TheVariants.{Pin}
 use Rattle.sh_reset.specs.Reset.{reset_memory_of}
-use Rattle.answer.specs.declared.Outcome.{Outcome}
 use Rattle.answer.specs.Answer.{Answered, answered, refused}
 
 -- all cells 0, then the pin reset
@@ -18,6 +17,6 @@ unfoldable pub fresh_call_of : ℕ → List ℕ → Answered
 fresh_call_of options l =
     pick (eqb (length l) 1024)
     (pick (ltb options 8)
-    (answered Outcome.Done (state (fresh_of options) (fresh_memory_of options l)))
+    (answered (Ok tt) (state (fresh_of options) (fresh_memory_of options l)))
     (refused (Options options) (state (fresh_of 0) l)))
     (refused (MemoryLength (length l)) (state (fresh_of 0) l))

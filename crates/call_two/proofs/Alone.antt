@@ -1,4 +1,5 @@
 -- EACH CAR BY ITSELF (02, P5): where the call is done, a car's machine, memory, picture and stop reason are what the one-car run and the picture give for its own entries; so they depend on nothing else.
+use Rattle.std.specs.Prelude.{Err, None, Ok, Option, Result, Some}
 use mathlib.Core.Path.{◌≡◌, ◌∙◌, refl, ap, sym, subst}
 use mathlib.Core.Bool.{true, false}
 use mathlib.Core.Logic.{◌⊎◌, inl, inr}
@@ -11,13 +12,11 @@ use lib.Seq.{take-append_seam}
 use borrow.Author.Tests.{ltb-false}
 use Rattle.lent.specs.Lent.{pick, fails_from, pasted_of}
 use Rattle.lent.specs.Outcome.{outcome}
-use Rattle.lent.specs.declared.Found.{Found}
 use Rattle.lent.proofs.Laws.{test, by_test, by_choice, pasted_front}
 use Rattle.refusal.specs.declared.Refusal.{Refusal}
 use Rattle.refusal.specs.Refusal.{number_of}
 use Rattle.sh_state.specs.declared.machine.Machine.{Machine}
 use Rattle.sh_state.specs.State.{State}
-use Rattle.sh_rules.specs.declared.judge.Judged.{Judged}
 use Rattle.sh_rules.specs.Judge.{first_of, state_judged}
 use Rattle.sh_rules.proofs.Laws.{first_fine}
 use Rattle.sh_known.specs.Known.{known_of}
@@ -27,56 +26,55 @@ use Rattle.sh_run.proofs.Keeps.{run_judged}
 use Rattle.sh_run.specs.declared.Stop.TheVariants as stops
 use Rattle.sh_two.specs.Two.{entries_of, Car, car, car_ran, of_car, own_of, start_of, Two, two_of}
 use Rattle.sh_two.proofs.Cars.{as_one_car}
-use Rattle.call_run.specs.declared.Reason.{Reason}
 use Rattle.call_run.specs.Run.{RunAnswered, reason_of, run_told_of, unknown_from, run_found_of, run_judged_of, run_call_of}
 use Rattle.body.specs.Body.{wiring_judged}
 use Rattle.body.proofs.Fine.{told_fine}
-use Rattle.picture.specs.declared.Drawn.{Drawn}
 use Rattle.picture.specs.Picture.{lit_of, shown_of, draw_of, drawn_of, picture_of}
 use Rattle.picture.proofs.Pictures.{one_per_element}
-use Rattle.call_two.specs.declared.Outcome.{Outcome}
 use Rattle.call_two.specs.Script.{event_fits, events_judged}
 use Rattle.call_two.specs.Statement.{Comes, Alike}
-use Rattle.call_two.specs.RunTwo.{Lent, lower_of, lowest_of, cars_lent_judged, script_judged, room_judged, two_judged, Answered, answered, left_of, both_left_of, ran_of, run_two_of}
+use Rattle.call_two.specs.RunTwo.{ended, Lent, lower_of, lowest_of, cars_lent_judged, script_judged, room_judged, two_judged, Answered, answered, left_of, both_left_of, ran_of, run_two_of}
+use Rattle.call_run.specs.declared.Reached.{Reached}
+use Rattle.call_two.specs.declared.Ended.{Ended}
 
 -- ---- What a call that is done was judged by ----
 
 -- a judgement turns down, or it does not
-refused_not_fine : {A : Type 0} {why : Refusal} → Judged.Refused why ≡ Judged.Fine → A
+refused_not_fine : {A : Type 0} {why : Refusal} → ◌≡◌ {A = Result (Unit {0}) Refusal} (Err why) (Ok tt) → A
 refused_not_fine e = let z : ◌≡◌ {A = ℕ} 0 1 = cc in absurd (omega arith)
 
-lower_refuses : {A : Type 0} (v w : Refusal) → lower_of v w ≡ Judged.Fine → A
+lower_refuses : {A : Type 0} (v w : Refusal) → lower_of v w ≡ Ok tt → A
 unfolding lower_of
-lower_refuses {A} v w = by_choice (λ (j : Judged). j ≡ Judged.Fine → A) (ltb (number_of w) (number_of v)) _ _ refused_not_fine refused_not_fine
+lower_refuses {A} v w = by_choice (λ (j : Result (Unit {0}) Refusal). j ≡ Ok tt → A) (ltb (number_of w) (number_of v)) _ _ refused_not_fine refused_not_fine
 
-lowest_both : (a b : Judged) → lowest_of a b ≡ Judged.Fine → (a ≡ Judged.Fine) × (b ≡ Judged.Fine)
+lowest_both : (a b : Result (Unit {0}) Refusal) → lowest_of a b ≡ Ok tt → (a ≡ Ok tt) × (b ≡ Ok tt)
 unfolding lowest_of
-lowest_both Judged.Fine b e = (refl, e)
-lowest_both (Judged.Refused v) Judged.Fine e = refused_not_fine e
-lowest_both (Judged.Refused v) (Judged.Refused w) e = lower_refuses v w e
+lowest_both (Ok tt) b e = (refl, e)
+lowest_both (Err v) (Ok tt) e = refused_not_fine e
+lowest_both (Err v) (Err w) e = lower_refuses v w e
 
-events_none : (f : Found) → events_judged f ≡ Judged.Fine → f ≡ Found.Nothing
+events_none : (f : Option ℕ) → events_judged f ≡ Ok tt → f ≡ None
 unfolding events_judged
-events_none (Found.At i) e = refused_not_fine e
-events_none Found.Nothing e = refl
+events_none (Some i) e = refused_not_fine e
+events_none None e = refl
 
-room_enough : (wiring room : List ℕ) → room_judged wiring room ≡ Judged.Fine → ltb (length room) (length wiring / 3) ≡ false
+room_enough : (wiring room : List ℕ) → room_judged wiring room ≡ Ok tt → ltb (length room) (length wiring / 3) ≡ false
 unfolding room_judged
-room_enough wiring room = by_test (λ (j : Judged). j ≡ Judged.Fine → ltb (length room) (length wiring / 3) ≡ false) (ltb (length room) (length wiring / 3)) _ _ (λ _. refused_not_fine) (λ f _. f)
+room_enough wiring room = by_test (λ (j : Result (Unit {0}) Refusal). j ≡ Ok tt → ltb (length room) (length wiring / 3) ≡ false) (ltb (length room) (length wiring / 3)) _ _ (λ _. refused_not_fine) (λ f _. f)
 
 -- what the call was judged by, of either car
 record Done (p wiring script : List ℕ) (s : State) (room : List ℕ) : Type 0 where
   words : eqb (length p) 4096 ≡ true
-  fit : state_judged s ≡ Judged.Fine
-  known : fails_from event_fits script 0 ≡ Found.Nothing
-  wired : wiring_judged wiring ≡ Judged.Fine
+  fit : state_judged s ≡ Ok tt
+  known : fails_from event_fits script 0 ≡ None
+  wired : wiring_judged wiring ≡ Ok tt
   enough : ltb (length room) (length wiring / 3) ≡ false
 
 of_either : {A : Type 0} (P : A → Type 0) (k : ℕ) (a b : A) → P a → P b → P (of_car k a b)
 of_either P zero a b f g = f
 of_either P (suc k) a b f g = g
 
-done_of_lem : (k : ℕ) (p wiring : List ℕ) (a b : Lent) (script : List ℕ) → two_judged p wiring a b script ≡ Judged.Fine → Done p wiring script (of_car k a b).current (of_car k a b).room
+done_of_lem : (k : ℕ) (p wiring : List ℕ) (a b : Lent) (script : List ℕ) → two_judged p wiring a b script ≡ Ok tt → Done p wiring script (of_car k a b).current (of_car k a b).room
 unfolding two_judged cars_lent_judged script_judged
 done_of_lem k p wiring a b script h =
     let x = first_fine _ _ h in
@@ -87,25 +85,25 @@ done_of_lem k p wiring a b script h =
     let o = first_fine (room_judged wiring a.room) (room_judged wiring b.room) y.1 in
     record {
       words = told_fine (eqb (length p) 4096) _ l.0;
-      fit = of_either (λ (v : Lent). state_judged v.current ≡ Judged.Fine) k a b c.0 c.1;
+      fit = of_either (λ (v : Lent). state_judged v.current ≡ Ok tt) k a b c.0 c.1;
       known = events_none _ e.0;
       wired = (first_fine _ _ e.1).0;
-      enough = room_enough wiring (of_car k a b).room (of_either (λ (v : Lent). room_judged wiring v.room ≡ Judged.Fine) k a b o.0 o.1);
+      enough = room_enough wiring (of_car k a b).room (of_either (λ (v : Lent). room_judged wiring v.room ≡ Ok tt) k a b o.0 o.1);
     }
 
 -- ---- The car's own entries are a script that the one-car run takes ----
 
-found_not_nothing : {A : Type 0} {i : ℕ} → Found.At i ≡ Found.Nothing → A
+found_not_nothing : {A : Type 0} {i : ℕ} → Some i ≡ None → A
 found_not_nothing e = let z : ◌≡◌ {A = ℕ} 0 1 = cc in absurd (omega arith)
 
-entry_known : (c e : ℕ) (l : List ℕ) (i : ℕ) → i % 2 ≡ 0 → fails_from event_fits (c ∷ e ∷ l) i ≡ Found.Nothing → (known_of e ≡ true) × (fails_from event_fits l (i + 1 + 1) ≡ Found.Nothing)
+entry_known : (c e : ℕ) (l : List ℕ) (i : ℕ) → i % 2 ≡ 0 → fails_from event_fits (c ∷ e ∷ l) i ≡ None → (known_of e ≡ true) × (fails_from event_fits l (i + 1 + 1) ≡ None)
 unfolding fails_from event_fits
 entry_known c e l i z h =
     let o : (i + 1) % 2 ≡ 1 = omega arith in
-    let g : pick (known_of e) (fails_from event_fits l (i + 1 + 1)) (Found.At (i + 1)) ≡ fails_from event_fits (c ∷ e ∷ l) i = rw (z, o) in
-    by_test (λ (r : Found). r ≡ Found.Nothing → (known_of e ≡ true) × (fails_from event_fits l (i + 1 + 1) ≡ Found.Nothing)) (known_of e) _ _ (λ t f. (t, f)) (λ _. found_not_nothing) (g ∙ h)
+    let g : pick (known_of e) (fails_from event_fits l (i + 1 + 1)) (Some (i + 1)) ≡ fails_from event_fits (c ∷ e ∷ l) i = rw (z, o) in
+    by_test (λ (r : Option ℕ). r ≡ None → (known_of e ≡ true) × (fails_from event_fits l (i + 1 + 1) ≡ None)) (known_of e) _ _ (λ t f. (t, f)) (λ _. found_not_nothing) (g ∙ h)
 
-own_known : (l : List ℕ) (i k j : ℕ) → i % 2 ≡ 0 → fails_from event_fits l i ≡ Found.Nothing → unknown_from (own_of k (entries_of l)) j ≡ Found.Nothing
+own_known : (l : List ℕ) (i k j : ℕ) → i % 2 ≡ 0 → fails_from event_fits l i ≡ None → unknown_from (own_of k (entries_of l)) j ≡ None
 unfolding entries_of own_of fails_from
 own_known [] i k j z h = refl
 own_known (c ∷ []) i k j z h = refl
@@ -122,7 +120,7 @@ module _ (p wiring script : List ℕ) (s : State) (room : List ℕ) (d : Done p 
   one_car_call = rw (d.words, d.fit, own_known script 0 k 0 refl d.known)
 
   -- its state stays well formed, so that the picture is drawn
-  drawn : picture_of own.after wiring room ≡ outcome (Drawn.Elements (length wiring / 3)) (pasted_of room 0 (shown_of (lit_of own.after) own.after.memory wiring))
+  drawn : picture_of own.after wiring room ≡ outcome (Ok (length wiring / 3)) (pasted_of room 0 (shown_of (lit_of own.after) own.after.memory wiring))
   unfolding picture_of drawn_of draw_of first_of
   drawn = rw (run_judged p stop (own_of k (entries_of script)) s 0 d.fit, d.wired, one_per_element (lit_of own.after) own.after.memory wiring, d.enough)
 
@@ -157,11 +155,11 @@ comes_at : {p wiring script : List ℕ} {k stop : ℕ} {before left left' : Lent
 comes_at {p} {wiring} {script} {k} {stop} {before} {left} {left'} {why} {why'} e f h = subst (λ (v : Stop). Comes p wiring script k stop before v left') e (subst (λ (v : Lent). Comes p wiring script k stop before why v) (sym f) h)
 
 -- an outcome's reason of one of the cars, where there is any
-reason_in : ℕ → Stop → Outcome → Stop
-reason_in k other (Outcome.Ended v w n) = of_car k v w
-reason_in k other (Outcome.Refused why) = other
+reason_in : ℕ → Stop → Result Ended Refusal → Stop
+reason_in k other (Ok e) = of_car k e.first e.second
+reason_in k other (Err why) = other
 
-refused_not_ended : {A : Type 0} {why : Refusal} {v w : Stop} {n : ℕ} → Outcome.Refused why ≡ Outcome.Ended v w n → A
+refused_not_ended : {A : Type 0} {why : Refusal} {v w : Stop} {n : ℕ} → Err why ≡ Ok (ended v w n) → A
 refused_not_ended e = let z : ◌≡◌ {A = ℕ} 1 0 = cc in absurd (omega arith)
 
 module _ (p wiring : List ℕ) (a : Lent) (stop : ℕ) (b : Lent) (stop1 : ℕ) (script : List ℕ) where
@@ -171,26 +169,26 @@ module _ (p wiring : List ℕ) (a : Lent) (stop : ℕ) (b : Lent) (stop1 : ℕ) 
   abbrev ran_both : Two
   ran_both = two_of p (entries_of script) (start_of stop a.current stop1 b.current) 0
 
-  done_judged : {v w : Stop} {n : ℕ} (j : Judged) → (ran_of p wiring a stop b stop1 script j).outcome ≡ Outcome.Ended v w n → j ≡ Judged.Fine
+  done_judged : {v w : Stop} {n : ℕ} (j : Result (Unit {0}) Refusal) → (ran_of p wiring a stop b stop1 script j).outcome ≡ Ok (ended v w n) → j ≡ Ok tt
   unfolding ran_of
-  done_judged Judged.Fine e = refl
-  done_judged (Judged.Refused why) e = refused_not_ended e
+  done_judged (Ok tt) e = refl
+  done_judged (Err why) e = refused_not_ended e
 
-  module _ (v w : Stop) (n : ℕ) (e : called.outcome ≡ Outcome.Ended v w n) where
-    fine : two_judged p wiring a b script ≡ Judged.Fine
+  module _ (v w : Stop) (n : ℕ) (e : called.outcome ≡ Ok (ended v w n)) where
+    fine : two_judged p wiring a b script ≡ Ok tt
     unfolding run_two_of
     fine = done_judged (two_judged p wiring a b script) e
 
-    ended : called ≡ both_left_of wiring ran_both a.room b.room
+    left_both : called ≡ both_left_of wiring ran_both a.room b.room
     unfolding run_two_of ran_of
-    ended = rw fine
+    left_both = rw fine
 
     reason_told_lem : (k : ℕ) → reason_in k v (both_left_of wiring ran_both a.room b.room).outcome ≡ of_car k v w
     unfolding reason_in
-    reason_told_lem k = ap (λ (o : Outcome). reason_in k v o) (sym (ap (λ (r : Answered). r.outcome) ended) ∙ e)
+    reason_told_lem k = ap (λ (o : Result Ended Refusal). reason_in k v o) (sym (ap (λ (r : Answered). r.outcome) left_both) ∙ e)
 
     left_as_lem : (k : ℕ) → of_car k called.first called.second ≡ of_car k (both_left_of wiring ran_both a.room b.room).first (both_left_of wiring ran_both a.room b.room).second
-    left_as_lem k = ap (λ (r : Answered). of_car k r.first r.second) ended
+    left_as_lem k = ap (λ (r : Answered). of_car k r.first r.second) left_both
 
     -- EITHER CAR, by one law
     pub comes : (k : ℕ) → Comes p wiring script (of_car k 0 1) (of_car k stop stop1) (of_car k a b) (of_car k v w) (of_car k called.first called.second)
@@ -202,10 +200,10 @@ module _ (p wiring : List ℕ) (a : Lent) (stop : ℕ) (b : Lent) (stop1 : ℕ) 
         by_cases (suc i) = comes_by p wiring script 1 stop1 b (done_of_lem (suc i) p wiring a b script fine) (as_one_car (suc i) p (entries_of script) (start_of stop a.current stop1 b.current) 0 refl)
 
 -- a reason tells its stop
-stop_in : Reason → Stop
-stop_in Reason.Address = stops.Address
-stop_in Reason.End = stops.End
-stop_in (Reason.Refused why) = stops.Unlisted
+stop_in : Result Reached Refusal → Stop
+stop_in (Ok Reached.Address) = stops.Address
+stop_in (Ok Reached.End) = stops.End
+stop_in (Err why) = stops.Unlisted
 
 stop_back : (why : Stop) (m : Machine) → stop_in (reason_of why m) ≡ why
 unfolding reason_of stop_in
@@ -228,8 +226,8 @@ alike {p} {wiring} {script} {script'} {k} {stop} {before} {before'} {why} {why'}
 
 -- INDEPENDENCE
 pub independent : (k : ℕ) (p wiring : List ℕ)
-    (a : Lent) (stop : ℕ) (b : Lent) (stop1 : ℕ) (script : List ℕ) (v w : Stop) (n : ℕ) → (run_two_of p wiring a stop b stop1 script).outcome ≡ Outcome.Ended v w n →
-    (a' : Lent) (stop' : ℕ) (b' : Lent) (stop1' : ℕ) (script' : List ℕ) (v' w' : Stop) (n' : ℕ) → (run_two_of p wiring a' stop' b' stop1' script').outcome ≡ Outcome.Ended v' w' n' →
+    (a : Lent) (stop : ℕ) (b : Lent) (stop1 : ℕ) (script : List ℕ) (v w : Stop) (n : ℕ) → (run_two_of p wiring a stop b stop1 script).outcome ≡ Ok (ended v w n) →
+    (a' : Lent) (stop' : ℕ) (b' : Lent) (stop1' : ℕ) (script' : List ℕ) (v' w' : Stop) (n' : ℕ) → (run_two_of p wiring a' stop' b' stop1' script').outcome ≡ Ok (ended v' w' n') →
     (of_car k a b).current ≡ (of_car k a' b').current → of_car k stop stop1 ≡ of_car k stop' stop1' → own_of (of_car k 0 1) (entries_of script) ≡ own_of (of_car k 0 1) (entries_of script') →
     let r = run_two_of p wiring a stop b stop1 script in
     let r' = run_two_of p wiring a' stop' b' stop1' script' in
@@ -242,12 +240,12 @@ independent k p wiring a stop b stop1 script v w n e a' stop' b' stop1' script' 
 
 -- "before anything moves": what is refused leaves what was lent
 module _ (p wiring : List ℕ) (a : Lent) (stop : ℕ) (b : Lent) (stop1 : ℕ) (script : List ℕ) (why : Refusal) where
-  judged_leaves : (j : Judged) → (ran_of p wiring a stop b stop1 script j).outcome ≡ Outcome.Refused why → ran_of p wiring a stop b stop1 script j ≡ answered (Outcome.Refused why) a b
+  judged_leaves : (j : Result (Unit {0}) Refusal) → (ran_of p wiring a stop b stop1 script j).outcome ≡ Err why → ran_of p wiring a stop b stop1 script j ≡ answered (Err why) a b
   unfolding ran_of both_left_of
-  judged_leaves Judged.Fine e = refused_not_ended (sym e)
-  judged_leaves (Judged.Refused other) e = ap (λ (o : Outcome). answered o a b) e
+  judged_leaves (Ok tt) e = refused_not_ended (sym e)
+  judged_leaves (Err other) e = ap (λ (o : Result Ended Refusal). answered o a b) e
 
-  pub refused_leaves : (run_two_of p wiring a stop b stop1 script).outcome ≡ Outcome.Refused why → run_two_of p wiring a stop b stop1 script ≡ answered (Outcome.Refused why) a b
+  pub refused_leaves : (run_two_of p wiring a stop b stop1 script).outcome ≡ Err why → run_two_of p wiring a stop b stop1 script ≡ answered (Err why) a b
   unfolding run_two_of
   refused_leaves = judged_leaves (two_judged p wiring a b script)
 
@@ -259,9 +257,9 @@ module _ (p wiring : List ℕ) (a : Lent) (stop : ℕ) (b : Lent) (stop1 : ℕ) 
   abbrev LeftOrRun : ℕ → Type 0
   LeftOrRun k = (left_as k ≡ of_car k a b) ⊎ ((left_as k).current ≡ (run_call_of p (of_car k a b).current (own_of (of_car k 0 1) (entries_of script)) (of_car k stop stop1)).after)
 
-  by_outcome : (k : ℕ) (o : Outcome) → (run_two_of p wiring a stop b stop1 script).outcome ≡ o → LeftOrRun k
-  by_outcome k (Outcome.Ended v w n) e = inr (comes p wiring a stop b stop1 script v w n e k).state
-  by_outcome k (Outcome.Refused why) e = inl (ap (λ (r : Answered). of_car k r.first r.second) (refused_leaves p wiring a stop b stop1 script why e))
+  by_outcome : (k : ℕ) (o : Result Ended Refusal) → (run_two_of p wiring a stop b stop1 script).outcome ≡ o → LeftOrRun k
+  by_outcome k (Ok d) e = inr (comes p wiring a stop b stop1 script d.first d.second d.entries e k).state
+  by_outcome k (Err why) e = inl (ap (λ (r : Answered). of_car k r.first r.second) (refused_leaves p wiring a stop b stop1 script why e))
 
   pub left_or_run : (k : ℕ) → LeftOrRun k
   left_or_run k = by_outcome k (run_two_of p wiring a stop b stop1 script).outcome refl

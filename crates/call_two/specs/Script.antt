@@ -1,12 +1,10 @@
 -- What a script of two cars is turned down for (02, P5): "27 for a car above 1 and 28 for a cut entry, with the byte's place"; and 5, with the event byte's. The whole script is cut into entries from its front: a byte at an even place is a car, one at an odd place an event.
-use Rattle.std.specs.Prelude.{ℕ, ◌-◌, ◌%◌, Bool, true, false, List, [], ◌∷◌, ltb, eqb, length}
+use Rattle.std.specs.Prelude.{ℕ, ◌-◌, ◌%◌, Bool, true, false, List, [], ◌∷◌, ltb, eqb, length, Err, None, Ok, Option, Result, Some}
 use Rattle.lent.specs.Lent.{pick, both}
-use Rattle.lent.specs.declared.Found.{Found}
 use Rattle.refusal.specs.declared.Refusal.TheVariants as refusal
-use Rattle.sh_rules.specs.declared.judge.Judged.{Judged}
-use Rattle.sh_rules.specs.declared.judge.Judged.TheVariants.{Fine, Refused}
 use Rattle.sh_known.specs.Known.{known_of}
 use Rattle.body.specs.Body.{told}
+use Rattle.refusal.specs.declared.Refusal.{Refusal}
 
 -- a byte at an odd place is a known event
 unfoldable pub event_fits : ℕ → ℕ → Bool
@@ -17,17 +15,17 @@ unfoldable pub car_fits : ℕ → ℕ → Bool
 car_fits i c = pick (eqb (i % 2) 0) (ltb c 2) true
 
 -- 5: unknown event
-unfoldable pub events_judged : Found → Judged
-events_judged (Found.At i) = Refused (refusal.UnknownEvent i)
-events_judged Found.Nothing = Fine
+unfoldable pub events_judged : Option ℕ → Result (Unit {0}) Refusal
+events_judged (Some i) = Err (refusal.UnknownEvent i)
+events_judged None = Ok tt
 
 -- 27: a car above 1
-unfoldable pub cars_judged : Found → Judged
-cars_judged (Found.At i) = Refused (refusal.Car i)
-cars_judged Found.Nothing = Fine
+unfoldable pub cars_judged : Option ℕ → Result (Unit {0}) Refusal
+cars_judged (Some i) = Err (refusal.Car i)
+cars_judged None = Ok tt
 
 -- 28: a cut entry
-unfoldable pub cut_judged : List ℕ → Judged
+unfoldable pub cut_judged : List ℕ → Result (Unit {0}) Refusal
 cut_judged script = told (eqb (length script % 2) 0) (refusal.CutEntry (length script - 1))
 
 -- whether all of it is entries, each a car and a known event: what is found of a good script at once

@@ -1,4 +1,5 @@
 -- What releases does so whatever was frozen; and where nothing is frozen, nothing is after any events of which none freezes.
+use Rattle.std.specs.Prelude.{Err, Ok, Result}
 use mathlib.Core.Path.{◌≡◌, ◌∙◌, refl}
 use mathlib.Core.Bool.{Bool, true, false}
 use mathlib.Core.List.{List, [], ◌∷◌}
@@ -7,8 +8,6 @@ use lib.Dec.{eqb}
 use borrow.Author.Tests.{eqb-true, eqb-false}
 use Rattle.lent.specs.Lent.{pick, at}
 use Rattle.lent.proofs.Laws.{test, by_choice, by_eq, never}
-use Rattle.word.specs.declared.Decoded.{Decoded}
-use Rattle.word.specs.declared.Decoded.TheVariants.{Listed, Refused}
 use Rattle.word.specs.declared.Operation.{Operation}
 use Rattle.word.specs.declared.ImmediateOperation.TheVariants.{Adi, Adim, Sbi, Sbim, Eorim, Orim, Andim}
 use Rattle.word.specs.declared.Instruction.{Instruction}
@@ -33,6 +32,7 @@ use Rattle.sh_events.specs.Event.{base_pulse_of, watchdog_pulse_of, other_of, ev
 use Rattle.origins.specs.Origin.{after_of}
 use Rattle.halves.specs.Between.{only_reads, half_of, touches_by, freezes_by, releases_by, word_does, cycle_does, resets_of, touches_of, freezes_of, releases_of, None}
 use Rattle.halves.proofs.Stays.{base_stays, counted_down_stays, finished_stays, put_stays, execute_stays, interrupt_stays, asleep_stays, pins_stay}
+use Rattle.refusal.specs.declared.Refusal.{Refusal}
 
 abbrev pub Free : Machine → Type 0
 Free m = m.frozen ≡ released_of
@@ -135,15 +135,15 @@ execute_free s Nop n f = execute_stays s Nop refl ∙ f
 
 -- A cycle.
 
-word_free : (p : List ℕ) (s : State) (d : Decoded) → word_does freezes_by d s.memory ≡ false → FreeIn s → FreeIn (instructed_of p s d).after
+word_free : (p : List ℕ) (s : State) (d : Result Instruction Refusal) → word_does freezes_by d s.memory ≡ false → FreeIn s → FreeIn (instructed_of p s d).after
 unfolding instructed_of word_does executed_of woken_of read_taken_of set_mode set_pending
-word_free p s (Listed i) n f = finished_stays p _ _ ∙ execute_free (state (woken_of s.machine) s.memory) i n f
-word_free p s (Refused why) n f = f
+word_free p s (Ok i) n f = finished_stays p _ _ ∙ execute_free (state (woken_of s.machine) s.memory) i n f
+word_free p s (Err why) n f = f
 
-word_releases : (p : List ℕ) (s : State) (d : Decoded) → word_does releases_by d s.memory ≡ true → FreeIn (instructed_of p s d).after
+word_releases : (p : List ℕ) (s : State) (d : Result Instruction Refusal) → word_does releases_by d s.memory ≡ true → FreeIn (instructed_of p s d).after
 unfolding instructed_of word_does executed_of
-word_releases p s (Listed i) h = finished_stays p _ _ ∙ execute_releases (state (woken_of s.machine) s.memory) i h
-word_releases p s (Refused why) h = never h
+word_releases p s (Ok i) h = finished_stays p _ _ ∙ execute_releases (state (woken_of s.machine) s.memory) i h
+word_releases p s (Err why) h = never h
 
 cycle_releases : (p : List ℕ) (s : State) → cycle_does releases_by p s ≡ true → FreeIn (cycle_of p s).after
 unfolding cycle_does cycle_of cycle_due_of awake_cycle_of
@@ -236,10 +236,10 @@ instruction_either Shr l = refl
 instruction_either Tjmp l = refl
 instruction_either Nop l = refl
 
-word_either : (d : Decoded) (l : List ℕ) → word_does touches_by d l ≡ pick (word_does freezes_by d l) true (word_does releases_by d l)
+word_either : (d : Result Instruction Refusal) (l : List ℕ) → word_does touches_by d l ≡ pick (word_does freezes_by d l) true (word_does releases_by d l)
 unfolding word_does
-word_either (Listed i) l = instruction_either i l
-word_either (Refused why) l = refl
+word_either (Ok i) l = instruction_either i l
+word_either (Err why) l = refl
 
 cycle_either : (p : List ℕ) (s : State) → cycle_does touches_by p s ≡ pick (cycle_does freezes_by p s) true (cycle_does releases_by p s)
 unfolding cycle_does

@@ -1,4 +1,5 @@
 -- What leaves the frozen nibble as it is: every event that reads neither half of the counter, writes no $005 and resets nothing.
+use Rattle.std.specs.Prelude.{Err, Ok, Result}
 use mathlib.Core.Path.{◌≡◌, ◌∙◌, refl}
 use mathlib.Core.Bool.{Bool, false}
 use mathlib.Core.List.{List, [], ◌∷◌}
@@ -8,8 +9,6 @@ use lib.Dec.{ltb, eqb}
 use borrow.Author.Tests.{eqb-false, ne_eqb}
 use Rattle.lent.specs.Lent.{pick, at}
 use Rattle.lent.proofs.Laws.{test, by_choice, by_eq}
-use Rattle.word.specs.declared.Decoded.{Decoded}
-use Rattle.word.specs.declared.Decoded.TheVariants.{Listed, Refused}
 use Rattle.word.specs.declared.Operation.{Operation}
 use Rattle.word.specs.declared.ImmediateOperation.TheVariants.{Adi, Adim, Sbi, Sbim, Eorim, Orim, Andim}
 use Rattle.word.specs.declared.Instruction.{Instruction}
@@ -34,6 +33,7 @@ use Rattle.sh_events.specs.Ports.{port_a_of, port_b_of, port_c_of}
 use Rattle.sh_events.specs.Event.{base_pulse_of, watchdog_pulse_of, pins_of, other_of, event_of}
 use Rattle.origins.specs.Origin.{after_of}
 use Rattle.halves.specs.Between.{half_of, touches_by, word_does, cycle_does, resets_of, touches_of, None}
+use Rattle.refusal.specs.declared.Refusal.{Refusal}
 
 -- the record left has the frozen nibble that this one has
 abbrev pub Kept : Machine → Machine → Type 0
@@ -150,10 +150,10 @@ execute_stays s Nop e = refl
 
 -- A cycle.
 
-word_stays : (p : List ℕ) (s : State) (d : Decoded) → word_does touches_by d s.memory ≡ false → Left s (instructed_of p s d).after
+word_stays : (p : List ℕ) (s : State) (d : Result Instruction Refusal) → word_does touches_by d s.memory ≡ false → Left s (instructed_of p s d).after
 unfolding instructed_of word_does executed_of woken_of read_taken_of set_mode set_pending
-word_stays p s (Listed i) e = finished_stays p _ _ ∙ execute_stays (state (woken_of s.machine) s.memory) i e
-word_stays p s (Refused why) e = refl
+word_stays p s (Ok i) e = finished_stays p _ _ ∙ execute_stays (state (woken_of s.machine) s.memory) i e
+word_stays p s (Err why) e = refl
 
 pub interrupt_stays : (p : List ℕ) (s : State) (due : ℕ) → Left s (interrupt_cycle_of p s due)
 unfolding interrupt_cycle_of interrupted_of entered_of push_of set_pc set_stack woken_of read_taken_of set_mode set_pending

@@ -1,8 +1,6 @@
 -- Timer0's counter read in two halves (02, P2): the two reads, what may stand between them, and what freezes.
-use Rattle.std.specs.Prelude.{◌≡◌, Bool, true, false, List, [], ◌∷◌, ℕ, eqb}
+use Rattle.std.specs.Prelude.{◌≡◌, Bool, true, false, List, [], ◌∷◌, ℕ, eqb, Err, Ok, Result}
 use Rattle.lent.specs.Lent.{pick, at}
-use Rattle.word.specs.declared.Decoded.{Decoded}
-use Rattle.word.specs.declared.Decoded.TheVariants.{Listed, Refused}
 use Rattle.word.specs.declared.ImmediateOperation.TheVariants.{Adi, Adim, Sbi, Sbim, Eorim, Orim, Andim}
 use Rattle.word.specs.declared.Instruction.{Instruction}
 use Rattle.word.specs.declared.Instruction.TheVariants.{Accumulator, Memory, Lda, Sta, Immediate, Ldi, Branch, Call, Daa, Das, Rtnw, Rtni, Halt, Stop, Jmp, Shr, Tjmp, Nop}
@@ -12,13 +10,14 @@ use Rattle.sh_cells.specs.Cells.{target_of}
 use Rattle.sh_interrupts.specs.Interrupt.{due_of, awake_of}
 use Rattle.sh_watchdog.specs.Watchdog.{expires_of}
 use Rattle.sh_events.specs.Event.{event_of}
+use Rattle.refusal.specs.declared.Refusal.{Refusal}
 
 -- a cycle of this state executes the instruction
 pub record Executes (p : List ℕ) (s : State) (i : Instruction) : Type 0 where
   pub running : s.machine.mode ≡ 0
   -- no interrupt to take instead
   pub quiet : due_of s.memory ≡ 0
-  pub reads : decode_of (at p s.machine.pc) ≡ Listed i
+  pub reads : decode_of (at p s.machine.pc) ≡ Ok i
 
 -- the forms that read a cell and write none; $00F means the cell pointed at
 unfoldable pub only_reads : Instruction → List ℕ → ℕ → Bool
@@ -103,9 +102,9 @@ releases_by Shr l = false
 releases_by Tjmp l = false
 releases_by Nop l = false
 
-unfoldable pub word_does : (Instruction → List ℕ → Bool) → Decoded → List ℕ → Bool
-word_does f (Listed i) l = f i l
-word_does f (Refused why) l = false
+unfoldable pub word_does : (Instruction → List ℕ → Bool) → Result Instruction Refusal → List ℕ → Bool
+word_does f (Ok i) l = f i l
+word_does f (Err why) l = false
 
 -- a cycle does what the instruction does that it executes, if it executes one
 unfoldable pub cycle_does : (Instruction → List ℕ → Bool) → List ℕ → State → Bool

@@ -1,4 +1,5 @@
 -- The list's bytes read back as its addresses: what a C program reads from the room, two bytes high byte first, is the list of writers.
+use Rattle.std.specs.Prelude.{Result}
 use Prim.Native.Nat.{ℕ, zero, suc, ◌+◌, ◌*◌, ◌<◌}
 use mathlib.Core.Path.{◌≡◌, ◌∙◌}
 use mathlib.Core.List.{List, [], ◌∷◌, ◌++◌}
@@ -10,7 +11,6 @@ use Rattle.lent.specs.Outcome.{Outcome}
 use Rattle.lent.proofs.Laws.{by_test, by_lt, by_eq}
 use Rattle.refusal.specs.Told.{done_told, refused_told}
 use Rattle.sh_map.specs.Map.{askable_of}
-use Rattle.writers.specs.declared.Listed.{Listed}
 use Rattle.writers.specs.Test.{writes_of}
 use Rattle.writers.specs.List.{writers_from, writers_of}
 use Rattle.writers.specs.Answer.{filled_of, listed_told}
@@ -19,6 +19,7 @@ use Rattle.wire.proofs.Laws.{length_pairs, length_words}
 use Rattle.wire.proofs.Trips.{words_back}
 use Rattle.host.specs.Told.{Filled, room_told}
 use Rattle.host.specs.List.{asked_of, host_list_of}
+use Rattle.refusal.specs.declared.Refusal.{Refusal}
 
 one_more_small : (a b : ℕ) (l : List ℕ) (k : ℕ) → a < b → ((j : ℕ) → at l j < b) → at (a ∷ l) k < b
 one_more_small a b l zero h f = h
@@ -51,7 +52,7 @@ unfolding host_list_of asked_of filled_of room_told listed_told refused_told don
 list_back body c room count =
     let p = words_of body 4096 in
     let n = length (writers_of p c) in
-    let Read : Outcome Listed → Type 0 = λ a. Back p c (room_told listed_told a count) in
+    let Read : Outcome (Result ℕ Refusal) → Type 0 = λ a. Back p c (room_told listed_told a count) in
     by_eq (Back p c) (length body) 8192 _ _
     (λ h. by_test Read (askable_of c) _ _
     (λ a. by_lt Read (length room) (length (pairs_of (writers_of p c) n)) _ _ (λ k e. absurd (omega (arith, e)))

@@ -1,4 +1,5 @@
 -- The run of two cars, for C, from its parts: what is told of an outcome, the words and records read, the answer, the records written back; and the tests on the lengths.
+use Rattle.std.specs.Prelude.{Result}
 use mathlib.Core.Path.{◌≡◌, ◌∙◌, ap, sym}
 use mathlib.Core.Bool.{Bool, true, false}
 use mathlib.Core.List.{List}
@@ -12,22 +13,22 @@ use Rattle.refusal.specs.declared.Refusal.TheVariants.{ProgramLength}
 use Rattle.refusal.specs.Told.{Said, refused_told}
 use Rattle.sh_state.specs.declared.machine.Machine.{Machine}
 use Rattle.sh_state.specs.State.{state}
-use Rattle.sh_rules.specs.declared.judge.Judged.{Judged}
 use Rattle.sh_rules.specs.Judge.{judged_told}
-use Rattle.call_two.specs.declared.Outcome.{Outcome}
 use Rattle.call_two.specs.RunTwo.{lent, lowest_of, Answered, run_two_of, Outs, outs, outs_of}
 use Rattle.wire.specs.Record.{record_of, bytes_of}
 use Rattle.wire.specs.Words.{words_of}
 use Rattle.wire.proofs.Laws.{record_whole}
 use Rattle.host.specs.RunTwo.{car_bytes, TwoRan, two_ran, read_car, two_told, car_judged, short_two, host_run_two_of}
+use Rattle.call_two.specs.declared.Ended.{Ended}
+use Rattle.refusal.specs.declared.Refusal.{Refusal}
 
-pub outs_at : {i j : Outcome} {r : Outs} (reason reason1 entries : ℕ) → i ≡ j → r ≡ outs_of j reason reason1 entries → r ≡ outs_of i reason reason1 entries
-outs_at reason reason1 entries p q = q ∙ sym (ap (λ (k : Outcome). outs_of k reason reason1 entries) p)
+pub outs_at : {i j : Result Ended Refusal} {r : Outs} (reason reason1 entries : ℕ) → i ≡ j → r ≡ outs_of j reason reason1 entries → r ≡ outs_of i reason reason1 entries
+outs_at reason reason1 entries p q = q ∙ sym (ap (λ (k : Result Ended Refusal). outs_of k reason reason1 entries) p)
 
 pub outs_said : {s t : Said} (reason reason1 entries : ℕ) → s ≡ t → outs s reason reason1 entries ≡ outs t reason reason1 entries
 outs_said reason reason1 entries p = ap (λ (k : Said). outs k reason reason1 entries) p
 
-pub short_two_lem : {j k k1 : Judged} {s : Said} (l b l1 b1 : List ℕ) → k ≡ car_judged l b → k1 ≡ car_judged l1 b1 → j ≡ lowest_of k k1 → s ≡ judged_told j → s ≡ short_two l b l1 b1
+pub short_two_lem : {j k k1 : Result (Unit {0}) Refusal} {s : Said} (l b l1 b1 : List ℕ) → k ≡ car_judged l b → k1 ≡ car_judged l1 b1 → j ≡ lowest_of k k1 → s ≡ judged_told j → s ≡ short_two l b l1 b1
 unfolding short_two
 short_two_lem l b l1 b1 p q r t = rw (← p, ← q, ← r) t
 

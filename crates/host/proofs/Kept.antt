@@ -1,11 +1,11 @@
 -- A well-formed machine passes through its 45 bytes unchanged: no rule lets a word of the record outgrow two bytes.
+use Rattle.std.specs.Prelude.{Ok}
 use mathlib.Core.Path.{◌≡◌, refl}
 use Prim.Native.Nat.{ℕ, ◌%◌, ◌<◌}
 use native.Mathlib.Omega.{arith}
 use lib.Dec.{ltb}
 use borrow.Author.Tests.{ltb-true}
 use Rattle.lent.specs.Lent.{at}
-use Rattle.sh_rules.specs.declared.judge.Judged.TheVariants.{Fine}
 use Rattle.sh_rules.specs.Judge.{state_judged}
 use Rattle.sh_periods.specs.Periods.{ratios, ratio_of, periods, period_of}
 use Rattle.sh_state.specs.State.{State}
@@ -22,7 +22,7 @@ period_sized : (control : ℕ) → period_of control < 65536
 unfolding period_of periods below
 period_sized control = ltb-true _ 65536 (below_at 8 (λ i. ltb (at periods i) 65536) (control % 8) refl (omega arith))
 
-well_formed_sized : (s : State) → state_judged s ≡ Fine → Sized s.machine
+well_formed_sized : (s : State) → state_judged s ≡ Ok tt → Sized s.machine
 well_formed_sized s e =
     let f = (fit_of s e).machine in
     record {
@@ -36,5 +36,5 @@ well_formed_sized s e =
       entries = λ k. omega (arith, f.entries k);
     }
 
-pub well_formed_kept : (s : State) → state_judged s ≡ Fine → record_of (bytes_of s.machine) ≡ s.machine
+pub well_formed_kept : (s : State) → state_judged s ≡ Ok tt → record_of (bytes_of s.machine) ≡ s.machine
 well_formed_kept s e = there_and_back s.machine (well_formed_sized s e)

@@ -1,5 +1,6 @@
 -- What a match on an answer leaves: what is told of it, where the answer is known.
-use mathlib.Core.Path.{◌≡◌, ◌∙◌, ap, sym}
+use Rattle.std.specs.Prelude.{Err, Ok, Result}
+use mathlib.Core.Path.{◌≡◌, ◌∙◌, ap, refl, sym}
 use mathlib.Core.List.{List}
 use Prim.Native.Nat.{ℕ}
 use lib.IntN.{ℤ}
@@ -23,49 +24,59 @@ use Rattle.picture.specs.Picture.{picture_of, drawn_told}
 use Rattle.wire.specs.Record.{record_of, bytes_of}
 use Rattle.wire.specs.Words.{words_of, words_at_of}
 use Rattle.wire.proofs.Laws.{record_whole, words_at_length, words_at_first, words_at_second}
-use Rattle.sh_rules.specs.declared.judge.Judged.{Judged}
-use Rattle.sh_rules.specs.Judge.{judged_told}
-use Rattle.answer.specs.declared.Outcome as answers
-use Rattle.call_run.specs.declared.Reason.{Reason}
-use Rattle.level.specs.declared.Levelled.{Levelled}
+use Rattle.sh_rules.specs.Judge.{first_of, judged_told, memory_judged}
 use Rattle.level.specs.Level.{levels, levelled_told}
-use Rattle.picture.specs.declared.Drawn.{Drawn}
-use Rattle.book_write.specs.declared.Written.{Written}
-use Rattle.book.specs.declared.Reading.{Reading}
 use Rattle.book.specs.declared.Parts.{Parts}
-use Rattle.host.specs.Told.{filled, room_told}
+use Rattle.host.specs.Told.{filled, room_told, count_told, short_told}
 use Rattle.host.specs.Step.{stepped, step_told}
 use Rattle.host.specs.Run.{ran, run_told}
 use Rattle.host.specs.Books.{host_read_of, host_write_of}
+use Rattle.call_run.specs.declared.Reached.{Reached}
 
-pub judged_at : {i j : Judged} {r : Said} → i ≡ j → r ≡ judged_told j → r ≡ judged_told i
-judged_at p q = q ∙ sym (ap judged_told p)
+pub judged_is : (j : Result (Unit {0}) Refusal) → outcome_told j ≡ judged_told j
+unfolding outcome_told judged_told
+judged_is (Ok tt) = refl
+judged_is (Err why) = refl
 
-pub outcome_at : {i j : answers.Outcome} {r : Said} → i ≡ j → r ≡ outcome_told j → r ≡ outcome_told i
+pub short_said : {k j : Result (Unit {0}) Refusal} {s : Said} (l : List ℕ) → k ≡ memory_judged l → j ≡ first_of k (Err Refusal.Record) → s ≡ outcome_told j → s ≡ short_told l
+unfolding short_told
+short_said l p q r = rw (← p, ← q) (r ∙ judged_is _)
+
+pub outcome_at : {i j : (Result (Unit {0}) Refusal)} {r : Said} → i ≡ j → r ≡ outcome_told j → r ≡ outcome_told i
 outcome_at p q = q ∙ sym (ap outcome_told p)
 
-pub stopped_at : {i j : Reason} {r : Stopped} (n reason events : ℕ) → i ≡ j → r ≡ reason_told j n reason events → r ≡ reason_told i n reason events
+pub stopped_at : {i j : Result Reached Refusal} {r : Stopped} (n reason events : ℕ) → i ≡ j → r ≡ reason_told j n reason events → r ≡ reason_told i n reason events
 stopped_at n reason events p q = q ∙ sym (ap (λ k. reason_told k n reason events) p)
 
-pub level_found : {i : Levelled} {v k : ℤ} {s : Said} (old : ℤ) → i ≡ Levelled.Level v → k ≡ v → s ≡ done_told → levels s k ≡ levelled_told i old
+pub reached_at : {i j : Reached} {r : Stopped} (n reason events : ℕ) → i ≡ j → r ≡ reason_told (Ok j) n reason events → r ≡ reason_told (Ok i) n reason events
+reached_at n reason events p q = q ∙ sym (ap (λ k. reason_told (Ok k) n reason events) p)
+
+pub level_found : {i : Result ℤ Refusal} {v k : ℤ} {s : Said} (old : ℤ) → i ≡ Ok v → k ≡ v → s ≡ done_told → levels s k ≡ levelled_told i old
 unfolding levelled_told
 level_found old e f g = rw (e, f, g)
 
-pub level_refused : {i : Levelled} {why : Refusal} {s : Said} (old : ℤ) → i ≡ Levelled.Refused why → s ≡ refused_told why → levels s old ≡ levelled_told i old
+pub level_refused : {i : Result ℤ Refusal} {why : Refusal} {s : Said} (old : ℤ) → i ≡ Err why → s ≡ refused_told why → levels s old ≡ levelled_told i old
 unfolding levelled_told
 level_refused old e g = rw (e, g)
 
-pub drawn_at : {i j : Drawn} {r : Counted} (count : ℕ) → i ≡ j → r ≡ drawn_told j count → r ≡ drawn_told i count
-drawn_at count p q = q ∙ sym (ap (λ k. drawn_told k count) p)
+pub count_at : {i j : Result ℕ Refusal} {r : Counted} (count : ℕ) → i ≡ j → r ≡ count_told j count → r ≡ count_told i count
+count_at count p q = q ∙ sym (ap (λ k. count_told k count) p)
 
-pub written_at : {i j : Written} {r : Counted} (count : ℕ) → i ≡ j → r ≡ written_told j count → r ≡ written_told i count
-written_at count p q = q ∙ sym (ap (λ k. written_told k count) p)
+pub drawn_counts : (a : Result ℕ Refusal) (count : ℕ) → count_told a count ≡ drawn_told a count
+unfolding count_told drawn_told
+drawn_counts (Ok n) count = refl
+drawn_counts (Err why) count = refl
 
-pub read_found : {i : Reading} {p q : Parts} {s : Said} (old : Parts) → i ≡ Reading.Parts p → q ≡ p → s ≡ done_told → found s q ≡ reading_told i old
+pub book_counts : (a : Result ℕ Refusal) (count : ℕ) → count_told a count ≡ written_told a count
+unfolding count_told written_told
+book_counts (Ok n) count = refl
+book_counts (Err why) count = refl
+
+pub read_found : {i : Result Parts Refusal} {p q : Parts} {s : Said} (old : Parts) → i ≡ Ok p → q ≡ p → s ≡ done_told → found s q ≡ reading_told i old
 unfolding reading_told
 read_found old e f g = rw (e, f, g)
 
-pub read_refused : {i : Reading} {why : Refusal} {s : Said} (old : Parts) → i ≡ Reading.Refused why → s ≡ refused_told why → found s old ≡ reading_told i old
+pub read_refused : {i : Result Parts Refusal} {why : Refusal} {s : Said} (old : Parts) → i ≡ Err why → s ≡ refused_told why → found s old ≡ reading_told i old
 unfolding reading_told
 read_refused old e g = rw (e, g)
 
@@ -117,17 +128,17 @@ pub run_told_lem : (body l b script : List ℕ) (stop reason events : ℕ) (w : 
 unfolding run_told
 run_told_lem body l b script stop reason events w m a k n p q r h s t = rw (← p, ← q, ← r, s, record_whole a.after.machine b h, t)
 
-pub picture_told : (l b wiring room : List ℕ) (count : ℕ) (m : Machine) (a : Outcome Drawn) (k : Counted) →
+pub picture_told : (l b wiring room : List ℕ) (count : ℕ) (m : Machine) (a : Outcome (Result ℕ Refusal)) (k : Counted) →
     m ≡ record_of b → a ≡ picture_of (state m l) wiring room → k ≡ drawn_told a.answer count →
     filled k a.room ≡ room_told drawn_told (picture_of (state (record_of b) l) wiring room) count
 unfolding room_told
 picture_told l b wiring room count m a k p q r = rw (← p, ← q, r)
 
-pub book_told : (program wiring level room : List ℕ) (count : ℕ) (a : Outcome Written) (k : Counted) →
+pub book_told : (program wiring level room : List ℕ) (count : ℕ) (a : Outcome (Result ℕ Refusal)) (k : Counted) →
     a ≡ write_of program wiring level room → k ≡ written_told a.answer count → filled k a.room ≡ host_write_of program wiring level room count
 unfolding host_write_of room_told
 book_told program wiring level room count a k p q = rw (← p, q)
 
-pub book_read_told : (file : List ℕ) (old : Parts) {a : Reading} {f : Found} → a ≡ read_of file → f ≡ reading_told a old → f ≡ host_read_of file old
+pub book_read_told : (file : List ℕ) (old : Parts) {a : Result Parts Refusal} {f : Found} → a ≡ read_of file → f ≡ reading_told a old → f ≡ host_read_of file old
 unfolding host_read_of
 book_read_told file old p q = rw (← p) q

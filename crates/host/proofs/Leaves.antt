@@ -1,4 +1,5 @@
 -- "A refusal changes no lent byte" (01, the table), at the C boundary: a step, and a run that is not refused by 6, hand back the bytes that came in.
+use Rattle.std.specs.Prelude.{Err, Ok, Result}
 use mathlib.Core.Path.{◌≡◌, refl, ap}
 use mathlib.Core.List.{List}
 use Prim.Native.Nat.{ℕ, ◌<◌}
@@ -9,10 +10,8 @@ use Rattle.refusal.specs.declared.Refusal.{Refusal}
 use Rattle.refusal.specs.Refusal.{number_of}
 use Rattle.refusal.specs.Told.{done_told, refused_told}
 use Rattle.sh_state.specs.State.{State, state}
-use Rattle.answer.specs.declared.Outcome.{Outcome}
 use Rattle.answer.specs.Answer.{answered, outcome_told}
 use Rattle.call_step.proofs.Leaves as step
-use Rattle.call_run.specs.declared.Reason.{Reason}
 use Rattle.call_run.specs.Run.{RunAnswered, run_answered, Stopped, stopped, refused_by, reason_told}
 use Rattle.call_run.proofs.Leaves as run
 use Rattle.wire.specs.Record.{record_of, bytes_of}
@@ -20,6 +19,7 @@ use Rattle.wire.specs.Words.{words_of}
 use Rattle.wire.proofs.Trips.{back_and_there}
 use Rattle.host.specs.Step.{Stepped, stepped, step_told, host_step_of}
 use Rattle.host.specs.Run.{Ran, ran, run_told, host_run_of}
+use Rattle.call_run.specs.declared.Reached.{Reached}
 
 -- what C lends are bytes
 abbrev pub Bytes : List ℕ → Type 0
@@ -33,20 +33,20 @@ module _ (l b : List ℕ) (n : length b ≡ 45) (fit : Bytes b) where
   abbrev Left : Stepped → Type 0
   Left r = (r.told.number ≡ 0 → ⊥) → r ≡ stepped r.told l b
 
-  answer_left : (o : Outcome) (s : State) → ((why : Refusal) → o ≡ Outcome.Refused why → s ≡ state (record_of b) l) → Left (step_told (answered o s))
+  answer_left : (o : Result (Unit {0}) Refusal) (s : State) → ((why : Refusal) → o ≡ Err why → s ≡ state (record_of b) l) → Left (step_told (answered o s))
   unfolding step_told outcome_told done_told
-  answer_left Outcome.Done s h = λ f. absurd (f refl)
-  answer_left (Outcome.Refused why) s h = λ f. rw (h why refl, again)
+  answer_left (Ok tt) s h = λ f. absurd (f refl)
+  answer_left (Err why) s h = λ f. rw (h why refl, again)
 
   abbrev RunLeft : Ran → ℕ → ℕ → Type 0
   RunLeft r reason events =
       (r.stop.told.number ≡ 0 → ⊥) → (r.stop.told.number ≡ 6 → ⊥) → r ≡ ran (stopped r.stop.told reason events) l b
 
-  run_left : (r : Reason) (k : ℕ) (s : State) (reason events : ℕ) → ((why : Refusal) → r ≡ Reason.Refused why → (number_of why ≡ 6 → ⊥) → s ≡ state (record_of b) l) → RunLeft (run_told (run_answered r k s) reason events) reason events
+  run_left : (r : Result Reached Refusal) (k : ℕ) (s : State) (reason events : ℕ) → ((why : Refusal) → r ≡ Err why → (number_of why ≡ 6 → ⊥) → s ≡ state (record_of b) l) → RunLeft (run_told (run_answered r k s) reason events) reason events
   unfolding run_told reason_told refused_by done_told refused_told
-  run_left Reason.Address k s reason events h = λ f g. absurd (f refl)
-  run_left Reason.End k s reason events h = λ f g. absurd (f refl)
-  run_left (Reason.Refused why) k s reason events h =
+  run_left (Ok Reached.Address) k s reason events h = λ f g. absurd (f refl)
+  run_left (Ok Reached.End) k s reason events h = λ f g. absurd (f refl)
+  run_left (Err why) k s reason events h =
       by_eq (λ (z : Stopped). RunLeft (ran z s.memory (bytes_of s.machine)) reason events) (number_of why) 6 _ _
       (λ e f g. absurd (g e))
       (λ other f g. rw (h why refl other, again))

@@ -1,6 +1,7 @@
 -- What the reader's answer says of the program as bytes: where it is read its words stand first in the words lent, and the one refusal that words enough leave is 26.
+use Rattle.std.specs.Prelude.{Err, Ok, Result}
 use Prim.Native.Nat.{ℕ, ◌≤◌, ◌<◌}
-use mathlib.Core.Path.{◌≡◌, ◌∙◌, sym, ap}
+use mathlib.Core.Path.{◌≡◌, ◌∙◌, sym, ap, refl}
 use mathlib.Core.Bool.{true, false}
 use mathlib.Core.List.{List, append-nil, ◌++◌}
 use native.Mathlib.Omega.{arith}
@@ -14,50 +15,49 @@ use Rattle.refusal.specs.declared.Refusal.TheVariants.{Room, Listing}
 use Rattle.refusal.specs.Told.{Said, Counted, done_told, refused_told}
 use Rattle.wire.specs.Words.{pairs_of}
 use Rattle.wire.proofs.Laws.{length_pairs}
-use Rattle.paper.specs.declared.Taken.{Taken}
-use Rattle.paper.specs.declared.Taken.TheVariants.{Words, Refused}
-use Rattle.paper.specs.declared.Written.{Written}
 use Rattle.paper.specs.Listing.{good_lines, whole, stored_of, read_of, write_of, written_told, taken_told}
-use Rattle.host.specs.Told.{filled, room_told}
+use Rattle.host.specs.Told.{filled, room_told, count_told}
 use Rattle.host.specs.Listings.{bytes_of, taken_of, Stored, stored, stored_told, host_listing_read_of}
 
-pub written_at : {i j : Written} {r : Counted} (count : ℕ) → i ≡ j → r ≡ written_told j count → r ≡ written_told i count
-written_at count p q = q ∙ sym (ap (λ k. written_told k count) p)
+pub listing_counts : (a : Result ℕ Refusal) (count : ℕ) → count_told a count ≡ written_told a count
+unfolding count_told written_told
+listing_counts (Ok n) count = refl
+listing_counts (Err why) count = refl
 
 -- the words read, the listing written, what is told
-pub listed_told_lem : (p w o t : List ℕ) (count : ℕ) (a : Written) {k : Counted} → w ≡ p → outcome a t ≡ write_of w o → k ≡ written_told a count → filled k t ≡ room_told written_told (write_of p o) count
+pub listed_told_lem : (p w o t : List ℕ) (count : ℕ) (a : Result ℕ Refusal) {k : Counted} → w ≡ p → outcome a t ≡ write_of w o → k ≡ written_told a count → filled k t ≡ room_told written_told (write_of p o) count
 unfolding room_told
 listed_told_lem p w o t count a q e f = rw (← q, ← e, f)
 
-apart : {why : Refusal} {A : Type 0} → Words ≡ Refused why → A
+apart : {why : Refusal} {A : Type 0} → ◌≡◌ {A = Result (Unit {0}) Refusal} (Ok tt) (Err why) → A
 apart e = let z : ◌≡◌ {A = ℕ} 0 1 = cc in absurd (omega arith)
 
-answers : {a : Taken} {t : List ℕ} {r : Outcome Taken} → outcome a t ≡ r → a ≡ r.answer
-answers e = ap (λ (x : Outcome Taken). x.answer) e
+answers : {a : Result (Unit {0}) Refusal} {t : List ℕ} {r : Outcome (Result (Unit {0}) Refusal)} → outcome a t ≡ r → a ≡ r.answer
+answers e = ap (λ (x : Outcome (Result (Unit {0}) Refusal)). x.answer) e
 
-reason_of_lem : {v w : Refusal} → Refused v ≡ Refused w → v ≡ w
+reason_of_lem : {v w : Refusal} → ◌≡◌ {A = Result (Unit {0}) Refusal} (Err v) (Err w) → v ≡ w
 reason_of_lem e = cc
 
 -- What an answer says, where 4,096 words o were lent and w is what they hold after the call.
 module _ (t o w : List ℕ) (h : length o ≡ 4096) where
-  read_is : outcome Words w ≡ read_of t o → (whole t ≡ true) × (w ≡ over (good_lines t) o)
+  read_is : outcome (Ok tt) w ≡ read_of t o → (whole t ≡ true) × (w ≡ over (good_lines t) o)
   unfolding read_of stored_of
   read_is =
-      let Says : Outcome Taken → Type 0 = λ r. outcome Words w ≡ r → (whole t ≡ true) × (w ≡ over (good_lines t) o) in
+      let Says : Outcome (Result (Unit {0}) Refusal) → Type 0 = λ r. outcome (Ok tt) w ≡ r → (whole t ≡ true) × (w ≡ over (good_lines t) o) in
       by_test Says (whole t) _ _
-      (λ a. by_lt Says (length o) 4096 _ _ (λ k e. apart (answers e)) (λ k e. (a, ap (λ (x : Outcome Taken). x.room) e)))
+      (λ a. by_lt Says (length o) 4096 _ _ (λ k e. apart (answers e)) (λ k e. (a, ap (λ (x : Outcome (Result (Unit {0}) Refusal)). x.room) e)))
       (λ a e. apart (answers e))
 
-  refused_is : (why : Refusal) → outcome (Refused why) w ≡ read_of t o → (whole t ≡ false) × (why ≡ Listing (length (good_lines t)))
+  refused_is : (why : Refusal) → outcome (Err why) w ≡ read_of t o → (whole t ≡ false) × (why ≡ Listing (length (good_lines t)))
   unfolding read_of stored_of
   refused_is why =
-      let Says : Outcome Taken → Type 0 = λ r. outcome (Refused why) w ≡ r → (whole t ≡ false) × (why ≡ Listing (length (good_lines t))) in
+      let Says : Outcome (Result (Unit {0}) Refusal) → Type 0 = λ r. outcome (Err why) w ≡ r → (whole t ≡ false) × (why ≡ Listing (length (good_lines t))) in
       by_test Says (whole t) _ _
       (λ a. by_lt Says (length o) 4096 _ _ (λ k e. absurd (omega arith)) (λ k e. apart (sym (answers e))))
       (λ a e. (a, reason_of_lem (answers e)))
 
   -- 4,096 words fill the words lent
-  read_words : outcome Words w ≡ read_of t o → w ≡ good_lines t
+  read_words : outcome (Ok tt) w ≡ read_of t o → w ≡ good_lines t
   unfolding whole over
   read_words e =
       let r = read_is e in
@@ -65,14 +65,14 @@ module _ (t o w : List ℕ) (h : length o ≡ 4096) where
       let d : length o ≤ length (good_lines t) = omega arith in
       r.1 ∙ (ap (λ (l : List ℕ). good_lines t ++ l) (drop_of_length-le o d) ∙ append-nil (good_lines t))
 
-module _ (t o w room : List ℕ) (a : Taken) (h : length o ≡ 4096) (e : outcome a w ≡ read_of t o) where
-  pub read_told : {r : Stored} → a ≡ Words → r ≡ stored_told (bytes_of w room) → r ≡ host_listing_read_of t room
+module _ (t o w room : List ℕ) (a : Result (Unit {0}) Refusal) (h : length o ≡ 4096) (e : outcome a w ≡ read_of t o) where
+  pub read_told : {r : Stored} → a ≡ Ok tt → r ≡ stored_told (bytes_of w room) → r ≡ host_listing_read_of t room
   unfolding host_listing_read_of taken_of
   read_told k u =
-      let x : outcome Words w ≡ read_of t o = rw (← k) e in
+      let x : outcome (Ok tt) w ≡ read_of t o = rw (← k) e in
       rw ((read_is t o w h x).0, ← (read_words t o w h x)) u
 
-  pub refused_told_lem : (why : Refusal) {s : Said} → a ≡ Refused why → s ≡ refused_told why → stored s room ≡ host_listing_read_of t room
+  pub refused_told_lem : (why : Refusal) {s : Said} → a ≡ Err why → s ≡ refused_told why → stored s room ≡ host_listing_read_of t room
   unfolding host_listing_read_of taken_of stored_told taken_told
   refused_told_lem why k u =
       let x = refused_is t o w h why (rw (← k) e) in

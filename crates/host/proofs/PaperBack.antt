@@ -1,4 +1,5 @@
 -- A kind 1 body passes through paper unchanged: what C writes as a listing reads back as the same bytes, and a text that is taken is the listing of the program that then stands in the room.
+use Rattle.std.specs.Prelude.{Result}
 use Prim.Native.Nat.{ℕ, ◌+◌, ◌*◌, ◌≤◌}
 use mathlib.Core.Path.{◌≡◌, ◌∙◌, refl, sym, ap}
 use mathlib.Core.List.{List, ◌++◌}
@@ -16,12 +17,11 @@ use Rattle.wire.specs.Words.{words_of, pairs_of}
 use Rattle.wire.proofs.Laws.{length_words, words_at}
 use Rattle.wire.proofs.Trips.{words_back, bytes_back}
 use Rattle.book_write.specs.Writing.{AllBytes}
-use Rattle.paper.specs.declared.Taken.{Taken}
-use Rattle.paper.specs.declared.Written.{Written}
 use Rattle.paper.specs.Listing.{listing_of, good_lines, whole, placed_of, write_of, written_told, taken_told, AllWords, FirstBad, Listed}
 use Rattle.paper.proofs.RoundTrip.{lines_back, listed_whole, whole_listed, first_bad}
 use Rattle.host.specs.Told.{Filled, room_told}
 use Rattle.host.specs.Listings.{bytes_of, taken_of, Stored, stored, stored_told, host_listing_write_of, host_listing_read_of}
+use Rattle.refusal.specs.declared.Refusal.{Refusal}
 
 words_sized : (b : List ℕ) → AllBytes b → AllWords (words_of b 4096)
 unfolding pair_at_of
@@ -50,7 +50,7 @@ unfolding host_listing_write_of room_told write_of placed_of written_told refuse
 wrote body text count =
     let p = words_of body 4096 in
     let l = listing_of p in
-    let Says : Outcome Written → Type 0 = λ a. length body ≡ 8192 → Wrote body (room_told written_told a count) in
+    let Says : Outcome (Result ℕ Refusal) → Type 0 = λ a. length body ≡ 8192 → Wrote body (room_told written_told a count) in
     by_eq (Wrote body) (length body) 8192 _ _
     (λ n. by_eq Says (length p) 4096 _ _
     (λ m. by_lt Says (length text) (length l) _ _ (λ k b e. absurd (omega (arith, e))) (λ k b e. (b, take-append_seam l (drop (length l) text))))
@@ -72,7 +72,7 @@ pub listing_taken : (t room : List ℕ) → Read t (host_listing_read_of t room)
 unfolding host_listing_read_of taken_of bytes_of stored_told taken_told refused_told done_told over
 listing_taken t room =
     let g = good_lines t in
-    let Says : Outcome Taken → Type 0 = λ a. Read t (stored_told a) in
+    let Says : Outcome (Result (Unit {0}) Refusal) → Type 0 = λ a. Read t (stored_told a) in
     by_test Says (whole t) _ _
     (λ a. by_lt Says (length room) 8192 _ _ (λ k e. absurd (omega (arith, e)))
     (λ k e.
@@ -93,7 +93,7 @@ numbers e = ap (λ (s : Said). s.number) e
 pub listing_refused : (t room : List ℕ) (n : ℕ) → Refused t room n (host_listing_read_of t room)
 unfolding host_listing_read_of taken_of bytes_of stored_told taken_told refused_told done_told
 listing_refused t room n =
-    let Says : Outcome Taken → Type 0 = λ a. Refused t room n (stored_told a) in
+    let Says : Outcome (Result (Unit {0}) Refusal) → Type 0 = λ a. Refused t room n (stored_told a) in
     by_test Says (whole t) _ _
     (λ a. by_lt Says (length room) 8192 _ _ (λ k e. absurd (omega (arith, numbers e))) (λ k e. absurd (omega (arith, numbers e))))
     (λ a e.

@@ -1,17 +1,17 @@
 -- xref_build, xref_list and xref_replace, for C (02, P7): the program is a kind 1 body; its length and the room for addresses are told in bytes, that of the tables in numbers.
-use Rattle.std.specs.Prelude.{ℕ, List}
+use Rattle.std.specs.Prelude.{ℕ, List, Result}
 use Rattle.lent.specs.Outcome as lent
 use Rattle.refusal.specs.Told.{Said}
-use Rattle.answer.specs.declared.Outcome.{Outcome}
 use Rattle.answer.specs.Answer.{outcome_told}
 use Rattle.writers.specs.Answer.{listed_told}
 use Rattle.xref.specs.Answer.{list_of}
 use Rattle.xref.specs.Replace.{Replaced, build_of, replace_of}
 use Rattle.host.specs.Told.{Filled, room_told}
 use Rattle.host.specs.Listings.{Stored, stored}
+use Rattle.refusal.specs.declared.Refusal.{Refusal}
 
 -- an answer, and the tables that it leaves
-unfoldable pub tables_told : lent.Outcome Outcome → Stored
+unfoldable pub tables_told : lent.Outcome (Result (Unit {0}) Refusal) → Stored
 tables_told a = stored (outcome_told a.answer) a.room
 
 unfoldable pub host_build_of : List ℕ → List ℕ → Stored

@@ -1,10 +1,9 @@
 -- the run of two cars, for C (02, P5; 01, "What is lent"): as run, with both cars' memories, records and pictures; the outs keep what stood there where it is refused.
-use Rattle.std.specs.Prelude.{ℕ, List, eqb, length}
+use Rattle.std.specs.Prelude.{ℕ, List, eqb, length, Err, Result}
 use Rattle.lent.specs.Lent.{pick, both}
 use Rattle.refusal.specs.declared.Refusal.{Refusal}
 use Rattle.refusal.specs.Told.{Said, refused_told}
 use Rattle.sh_state.specs.State.{state}
-use Rattle.sh_rules.specs.declared.judge.Judged.{Judged}
 use Rattle.sh_rules.specs.Judge.{first_of, memory_judged, state_judged, judged_told}
 use Rattle.call_two.specs.RunTwo.{Lent, lent, lowest_of, Answered, run_two_of, Outs, outs, outs_of}
 use Rattle.wire.specs.Record.{record_of, bytes_of}
@@ -39,10 +38,10 @@ two_told a reason reason1 entries =
     two_ran (outs_of a.outcome reason reason1 entries) (written_car a.first) (written_car a.second)
 
 -- 2, 3, 4 of a car; a record of another length than 45 bytes is 4, and 2 and 3 come before it
-unfoldable pub short_judged : List ℕ → Judged
-short_judged l = first_of (memory_judged l) (Judged.Refused Refusal.Record)
+unfoldable pub short_judged : List ℕ → Result (Unit {0}) Refusal
+short_judged l = first_of (memory_judged l) (Err Refusal.Record)
 
-unfoldable pub car_judged : List ℕ → List ℕ → Judged
+unfoldable pub car_judged : List ℕ → List ℕ → Result (Unit {0}) Refusal
 car_judged l b = pick (eqb (length b) 45) (state_judged (state (record_of b) l)) (short_judged l)
 
 -- where a record is not 45 bytes, one of the two is turned down

@@ -7,8 +7,8 @@ ghost use Rattle.host.specs.Told.{filled};
 ghost use Rattle.host.specs.Books.{places, host_read_of, host_write_of};
 
 use crate::told;
-use book::{Parts, Reading};
-use book_write::Written;
+use book::Parts;
+use refusal::Refusal;
 
 fn put(
     p: Parts,
@@ -30,7 +30,7 @@ fn put(
 }
 
 fn tell_read(
-    a: Reading,
+    a: Result<Parts, Refusal>,
     program: &mut u64,
     program_len: &mut u64,
     wiring: &mut u64,
@@ -42,7 +42,7 @@ fn tell_read(
     ensures { found (said result value.new) (places program.new program_len.new wiring.new wiring_len.new level.new level_len.new) ≡ reading_told a (places program.old program_len.old wiring.old wiring_len.old level.old level_len.old) }
 {
     match a {
-        Reading::Parts(p) => {
+        Ok(p) => {
             put(
                 p,
                 program,
@@ -54,7 +54,7 @@ fn tell_read(
             );
             told::done(value)
         }
-        Reading::Refused(why) => told::refused(why, value),
+        Err(why) => told::refused(why, value),
     }
 }
 
@@ -84,16 +84,6 @@ pub fn galhoveia_book_read(
     )
 }
 
-#[tactic(auto, unfolding(book_write::specs::Writing::written_told))]
-fn tell_written(a: Written, count: &mut u64, value: &mut u64) -> u32
-    ensures { counted (said result value.new) count.new ≡ written_told a count.old }
-{
-    match a {
-        Written::Bytes(n) => told::written(n as u64, count, value),
-        Written::Refused(why) => told::refused(why, value),
-    }
-}
-
 // A book of three bodies, in the lent room.
 pub fn galhoveia_book_write(
     program: &[u8],
@@ -106,5 +96,5 @@ pub fn galhoveia_book_write(
     ensures { filled (counted (said result value.new) count.new) room.new ≡ host_write_of program.now wiring.now level.now room.old count.old }
 {
     let a = book_write::write(program, wiring, level, room);
-    tell_written(a, count, value)
+    told::amount(a, count, value)
 }

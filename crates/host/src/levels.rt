@@ -5,17 +5,17 @@ ghost use Rattle.level.specs.Level.{levels, levelled_told};
 ghost use Rattle.host.specs.Level.{host_level_of};
 
 use crate::told;
-use level::Levelled;
+use refusal::Refusal;
 
-fn tell(a: Levelled, level: &mut i32, value: &mut u64) -> u32
+fn tell(a: Result<i32, Refusal>, level: &mut i32, value: &mut u64) -> u32
     ensures { levels (said result value.new) level.new ≡ levelled_told a level.old }
 {
     match a {
-        Levelled::Level(v) => {
+        Ok(v) => {
             *level = v;
             told::done(value)
         }
-        Levelled::Refused(why) => told::refused(why, value),
+        Err(why) => told::refused(why, value),
     }
 }
 

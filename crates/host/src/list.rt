@@ -9,7 +9,6 @@ ghost use Rattle.host.specs.List.{asked_of, host_list_of};
 use crate::told;
 use refusal::Refusal;
 use wire::words;
-use writers::Listed;
 
 // The first n addresses as bytes, in the room.
 fn fill(ws: &[u16], n: usize, room: &mut [u8], count: &mut u64, value: &mut u64) -> u32
@@ -32,8 +31,8 @@ fn asked(program: &[u8], cell: u32, room: &mut [u8], count: &mut u64, value: &mu
     let mut found = [0u16; 4096];
     let a = writers::list(&w, cell, &mut found);
     match a {
-        Listed::Count(n) => fill(&found, n, room, count, value),
-        Listed::Refused(why) => told::refused(why, value),
+        Ok(n) => fill(&found, n, room, count, value),
+        Err(why) => told::refused(why, value),
     }
 }
 

@@ -7,19 +7,8 @@ ghost use Rattle.host.specs.Told.{filled, room_told};
 ghost use Rattle.host.specs.Listings.{bytes_of, stored, stored_told, host_listing_write_of, host_listing_read_of};
 
 use crate::told;
-use paper::{Taken, Written};
 use refusal::Refusal;
 use wire::words;
-
-#[tactic(auto, unfolding(paper::specs::Listing::written_told))]
-fn tell_written(a: Written, count: &mut u64, value: &mut u64) -> u32
-    ensures { counted (said result value.new) count.new ≡ written_told a count.old }
-{
-    match a {
-        Written::Bytes(n) => told::written(n as u64, count, value),
-        Written::Refused(why) => told::refused(why, value),
-    }
-}
 
 // The listing of a program's words.
 fn listed(program: &[u8], text: &mut [u8], count: &mut u64, value: &mut u64) -> u32
@@ -27,7 +16,7 @@ fn listed(program: &[u8], text: &mut [u8], count: &mut u64, value: &mut u64) -> 
 {
     let w = words::words_of(program);
     let a = paper::write(&w, text);
-    tell_written(a, count, value)
+    told::amount(a, count, value)
 }
 
 // A program's listing, in the lent room.
@@ -64,7 +53,7 @@ pub fn galhoveia_listing_read(text: &[u8], program: &mut [u8], value: &mut u64) 
     let mut found = [0u16; 4096];
     let a = paper::read(text, &mut found);
     match a {
-        Taken::Words => store(&found, program, value),
-        Taken::Refused(why) => told::refused(why, value),
+        Ok(()) => store(&found, program, value),
+        Err(why) => told::refused(why, value),
     }
 }

@@ -8,18 +8,7 @@ ghost use Rattle.host.specs.Told.{filled, room_told};
 ghost use Rattle.host.specs.Picture.{host_picture_of};
 
 use crate::told;
-use picture::Drawn;
 use wire::record;
-
-#[tactic(auto, unfolding(picture::specs::Picture::drawn_told))]
-fn tell(a: Drawn, count: &mut u64, value: &mut u64) -> u32
-    ensures { counted (said result value.new) count.new ≡ drawn_told a count.old }
-{
-    match a {
-        Drawn::Elements(n) => told::written(n as u64, count, value),
-        Drawn::Refused(why) => told::refused(why, value),
-    }
-}
 
 fn drawn(
     memory: &[u8],
@@ -33,7 +22,7 @@ fn drawn(
 {
     let m = record::record_of(bytes);
     let a = picture::picture(m, memory, wiring, room);
-    tell(a, count, value)
+    told::amount(a, count, value)
 }
 
 // The picture that the machine shows, one byte for each element of the wiring, in the lent room.

@@ -7,7 +7,6 @@ ghost use Rattle.host.specs.Listings.{stored};
 ghost use Rattle.host.specs.References.{kept, host_build_of, host_xref_list_of, host_replace_of};
 
 use crate::told;
-use writers::Listed;
 use xref::calls;
 
 // The tables of a program, in the lent numbers.
@@ -16,16 +15,6 @@ pub fn galhoveia_xref_build(program: &[u8], tables: &mut [u16], value: &mut u64)
 {
     let a = calls::build(program, tables);
     told::outcome(a, value)
-}
-
-#[tactic(auto, unfolding(writers::specs::Answer::listed_told))]
-fn tell_listed(a: Listed, count: &mut u64, value: &mut u64) -> u32
-    ensures { counted (said result value.new) count.new ≡ listed_told a count.old }
-{
-    match a {
-        Listed::Count(n) => told::written(n as u64, count, value),
-        Listed::Refused(why) => told::refused(why, value),
-    }
 }
 
 // The writers of a cell by the tables, two bytes each, in the lent room.
@@ -40,7 +29,7 @@ pub fn galhoveia_xref_list(
     ensures { filled (counted (said result value.new) count.new) room.new ≡ host_xref_list_of program.now tables.now cell room.old count.old }
 {
     let a = calls::list(program, tables, cell, room);
-    tell_listed(a, count, value)
+    told::amount(a, count, value)
 }
 
 // A word of the lent program replaced, with its tables.

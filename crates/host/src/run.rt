@@ -1,5 +1,5 @@
 // run, for C.
-ghost use Rattle.std.specs.Prelude.{◌≡◌, length};
+ghost use Rattle.std.specs.Prelude.{Ok, ◌≡◌, length};
 ghost use Rattle.call_run.specs.Run.{run_call_of, stopped, refused_by, reason_told};
 ghost use Rattle.sh_state.specs.State.{state};
 ghost use Rattle.wire.specs.Record.{record_of};
@@ -8,7 +8,7 @@ ghost use Rattle.refusal.specs.Told.{said, done_told};
 ghost use Rattle.host.specs.Run.{ran, run_told, host_run_of};
 
 use crate::told;
-use call_run::Reason;
+use call_run::Reached;
 use refusal::Refusal;
 use wire::{record, words};
 
@@ -33,13 +33,27 @@ fn refused(why: Refusal, n: u64, reason: &mut u32, events: &mut u64, value: &mut
 }
 
 #[tactic(auto, unfolding(call_run::specs::Run::reason_told))]
-fn tell(why: Reason, n: u64, reason: &mut u32, events: &mut u64, value: &mut u64) -> u32
+fn reached(r: Reached, n: u64, reason: &mut u32, events: &mut u64, value: &mut u64) -> u32
+    ensures { stopped (said result value.new) reason.new events.new ≡ reason_told (Ok r) n reason.old events.old }
+{
+    match r {
+        Reached::Address => ended(0, n, reason, events, value),
+        Reached::End => ended(2, n, reason, events, value),
+    }
+}
+
+fn tell(
+    why: Result<Reached, Refusal>,
+    n: u64,
+    reason: &mut u32,
+    events: &mut u64,
+    value: &mut u64,
+) -> u32
     ensures { stopped (said result value.new) reason.new events.new ≡ reason_told why n reason.old events.old }
 {
     match why {
-        Reason::Address => ended(0, n, reason, events, value),
-        Reason::End => ended(2, n, reason, events, value),
-        Reason::Refused(r) => refused(r, n, reason, events, value),
+        Ok(r) => reached(r, n, reason, events, value),
+        Err(r) => refused(r, n, reason, events, value),
     }
 }
 

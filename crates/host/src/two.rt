@@ -10,10 +10,9 @@ ghost use Rattle.wire.specs.Words.{words_of};
 ghost use Rattle.host.specs.RunTwo.{car_bytes, two_ran, read_car, two_told, short_judged, car_judged, short_two, host_run_two_of};
 
 use crate::told;
-use call_two::Outcome;
+use call_two::Ended;
 use refusal::Refusal;
 use sh_rules::judge;
-use sh_rules::judge::Judged;
 use sh_run::Stop;
 use wire::{record, words};
 
@@ -45,16 +44,30 @@ fn ended(
 }
 
 #[tactic(auto, unfolding(call_two::specs::RunTwo::outs_of))]
-fn tell(o: Outcome, reason: &mut u32, reason1: &mut u32, entries: &mut u64, value: &mut u64) -> u32
+fn tell(
+    o: Result<Ended, Refusal>,
+    reason: &mut u32,
+    reason1: &mut u32,
+    entries: &mut u64,
+    value: &mut u64,
+) -> u32
     ensures { outs (said result value.new) reason.new reason1.new entries.new ≡ outs_of o reason.old reason1.old entries.old }
 {
     match o {
-        Outcome::Ended(v, w, n) => ended(v, w, n as u64, reason, reason1, entries, value),
-        Outcome::Refused(why) => told::refused(why, value),
+        Ok(e) => ended(
+            e.first,
+            e.second,
+            e.entries as u64,
+            reason,
+            reason1,
+            entries,
+            value,
+        ),
+        Err(why) => told::refused(why, value),
     }
 }
 
-fn machine_judged(memory: &[u8], bytes: &[u8]) -> Judged
+fn machine_judged(memory: &[u8], bytes: &[u8]) -> Result<(), Refusal>
     ensures { result ≡ state_judged (state (record_of bytes.now) memory.now) }
 {
     let m = record::record_of(bytes);
@@ -62,14 +75,14 @@ fn machine_judged(memory: &[u8], bytes: &[u8]) -> Judged
 }
 
 #[tactic(auto, unfolding(crate::specs::RunTwo::short_judged))]
-fn short_judged(memory: &[u8]) -> Judged
+fn short_judged(memory: &[u8]) -> Result<(), Refusal>
     ensures { result ≡ short_judged memory.now }
 {
-    judge::first(judge::memory(memory), Judged::Refused(Refusal::Record))
+    judge::first(judge::memory(memory), Err(Refusal::Record))
 }
 
 #[tactic(auto, unfolding(crate::specs::RunTwo::car_judged))]
-fn car_judged(memory: &[u8], bytes: &[u8]) -> Judged
+fn car_judged(memory: &[u8], bytes: &[u8]) -> Result<(), Refusal>
     ensures { result ≡ car_judged memory.now bytes.now }
 {
     if bytes.len() == record::BYTES {
@@ -83,7 +96,7 @@ fn short(memory: &[u8], bytes: &[u8], memory1: &[u8], bytes1: &[u8], value: &mut
     ensures { said result value.new ≡ short_two memory.now bytes.now memory1.now bytes1.now }
 {
     let j = call_two::lowest(car_judged(memory, bytes), car_judged(memory1, bytes1));
-    told::judged(j, value)
+    told::outcome(j, value)
 }
 
 fn done(

@@ -5,6 +5,10 @@ use Prim.Native.Nat.{ℕ, zero, suc, ◌+◌, ◌-◌, ◌<◌, ◌≤◌}
 use native.Mathlib.Omega.{arith}
 use lib.Bits.{bit_or, and_le_l, and_le_r, or_add_and}
 use lib.Dec.{eqb}
+use lib.ListN.{length, take, drop, get_or}
+use native.Mathlib.Numerals.{add-one}
+use Rattle.std.proofs.Common.{length-take}
+use Rattle.std.proofs.lemmas.List.{get_or-take, get_or-drop}
 use borrow.Author.Tests.{eqb-true, eqb-false}
 use Rattle.lent.specs.Lent.{at, joined_of}
 use Rattle.lent.proofs.Laws.{test}
@@ -12,20 +16,12 @@ use Rattle.lent.proofs.Laws.{test}
 or_above : (a b : ℕ) → (a ≤ bit_or a b) × (b ≤ bit_or a b)
 or_above a b = (omega (arith, or_add_and a b, and_le_r a b), omega (arith, or_add_and a b, and_le_l a b))
 
-pub joined_none : (l : List ℕ) (a : ℕ) → 0 ≡ joined_of l a (a - a)
+-- one byte of a part more
+pub joined_on : (l : List ℕ) (a n i b : ℕ) → i < length (take n (drop a l)) → b ≡ joined_of l a i → bit_or b (get_or (take n (drop a l)) i 0) ≡ joined_of l a (i + 1)
 unfolding joined_of
-joined_none l a = let e : a - a ≡ 0 = omega arith in rw e
-
-pub joined_end : (l : List ℕ) (a e i : ℕ) {b : ℕ} → i ≤ e → e ≤ i → b ≡ joined_of l a (i - a) → b ≡ joined_of l a (e - a)
-joined_end l a e i h k p = let f : e ≡ i = omega arith in rw f p
-
--- one byte more
-pub joined_on : (l : List ℕ) (a i b : ℕ) → a ≤ i → b ≡ joined_of l a (i - a) → bit_or b (at l i) ≡ joined_of l a (i + 1 - a)
-unfolding joined_of
-joined_on l a i b h p =
-    let e : i + 1 - a ≡ suc (i - a) = omega arith in
-    let f : a + (i - a) ≡ i = omega arith in
-    rw (e, f, p)
+joined_on l a n i b h p =
+    let k : i < n = omega (arith, length-take n (drop a l)) in
+    rw (add-one i, get_or-take n (drop a l) i 0 k, get_or-drop a l i 0, p)
 
 above : (l : List ℕ) (a n k : ℕ) → k < n → at l (a + k) ≤ joined_of l a n
 unfolding joined_of

@@ -1,17 +1,17 @@
 -- Laws on lists past their end, on tests and on one more element that every crate's proofs cite.
+use Rattle.std.specs.Prelude.{None, Some}
 use mathlib.Core.Path.{◌≡◌, ◌∙◌, refl, ap, sym}
 use mathlib.Core.Bool.{Bool, true, false}
-use mathlib.Core.List.{List, [], ◌∷◌, ◌++◌, append-nil}
-use Prim.Native.Nat.{ℕ, suc, ◌+◌, ◌/◌, ◌%◌, ◌<◌, ◌≤◌}
+use mathlib.Core.List.{List, ◌∷◌, ◌++◌, append-nil}
+use Prim.Native.Nat.{ℕ, suc, ◌+◌, ◌<◌, ◌≤◌}
 use native.Mathlib.Omega.{arith}
 use native.Mathlib.Nat.{zero-add}
 use native.Mathlib.Numerals.{add-one}
 use lib.Dec.{ltb, eqb}
-use lib.ListN.{length, take, drop, set, replicate, drop_of_length-le, length-append, length-drop, get_or-eq_default}
+use lib.ListN.{length, take, drop, set, drop_of_length-le, length-append, length-drop, get_or-eq_default}
 use lib.Seq.{drop-cons, set_out, take-suc-set, drop-set-lt, take_all, append_snoc, take-length, take-append_seam, drop-append-add, drop-drop, paste}
 use borrow.Author.Tests.{le-ltb, ltb-true, ltb-false, eqb-true, eqb-false}
-use Rattle.lent.specs.Lent.{pick, both, at, pair_at_of, pair_set_of, pasted_of, map_from, fails_from}
-use Rattle.lent.specs.declared.Found.TheVariants.{At, Nothing}
+use Rattle.lent.specs.Lent.{pick, both, at, pasted_of, map_from, fails_from}
 
 -- what stands past the end is 0
 pub at_past : (l : List ℕ) (i : ℕ) → length l ≤ i → 0 ≡ at l i
@@ -20,19 +20,6 @@ at_past l i h = sym (get_or-eq_default l 0 h)
 -- a store past the end changes nothing
 pub set_past : (l : List ℕ) (i v : ℕ) → length l ≤ i → l ≡ set l i v
 set_past l i v h = sym (set_out l i v h)
-
--- two bytes past the end
-pub pair_past : (l : List ℕ) (i : ℕ) → length l ≤ i → 0 ≡ pair_at_of l i
-unfolding pair_at_of
-pair_past l i h =
-    let k : length l ≤ i + 1 = omega arith in
-    rw (get_or-eq_default l 0 h, get_or-eq_default l 0 k)
-
-pub pair_set_past : (l : List ℕ) (i v : ℕ) → length l ≤ i → l ≡ pair_set_of l i v
-unfolding pair_set_of
-pair_set_past l i v h =
-    let k : length l ≤ i + 1 = omega arith in
-    rw (set_out l i (v / 256 % 256) h, set_out l (i + 1) (v % 256) k)
 
 -- bytes that fit, all of them copied
 pub pasted_fits : (d : List ℕ) (i : ℕ) (s b : List ℕ) (k : ℕ) → b ≡ paste d i s k → k ≡ length s → i + length s ≤ length d → b ≡ pasted_of d i s
@@ -112,20 +99,14 @@ module _ (f : ℕ → ℕ → ℕ) (l : List ℕ) (i : ℕ) where
       let d : drop (suc i) (set l i (f i (at l i))) ≡ drop (suc i) l = drop-set-lt (suc i) l i (f i (at l i)) (omega arith) in
       rw (drop_more l i h, add-one i, take-suc-set l i (f i (at l i)) h, d) (append_snoc (take i l) (f i (at l i)) _)
 
--- a map to 0
-pub map_zero : (l : List ℕ) (i : ℕ) → map_from (λ k v. 0) l i ≡ replicate (length l) 0
-unfolding map_from
-map_zero [] i = refl
-map_zero (v ∷ l) i = ap (λ (r : List ℕ). 0 ∷ r) (map_zero l (i + 1))
-
 -- A search as a loop does it: what is found from i on, where the loop ends, finds or goes on.
 module _ (f : ℕ → ℕ → Bool) (l : List ℕ) (i : ℕ) where
-  pub fails_end : length l ≤ i → Nothing ≡ fails_from f (drop i l) i
+  pub fails_end : length l ≤ i → None ≡ fails_from f (drop i l) i
   unfolding fails_from
   fails_end h = rw (drop_of_length-le l h)
 
   module _ (h : i < length l) (r : Bool) (e : r ≡ f i (at l i)) where
-    pub fails_here : r ≡ false → At i ≡ fails_from f (drop i l) i
+    pub fails_here : r ≡ false → Some i ≡ fails_from f (drop i l) i
     unfolding fails_from
     fails_here b = rw (drop_more l i h, ← e, b)
 

@@ -1,8 +1,6 @@
 -- What lent bytes and words hold and are left with, for every index: what stands past the end reads as 0, and a store there does nothing.
-use Rattle.std.specs.Prelude.{ℕ, zero, suc, ◌+◌, ◌*◌, ◌/◌, ◌%◌, Bool, true, false, List, [], ◌∷◌, ◌++◌, ltb, length, get_or, set, take, drop}
+use Rattle.std.specs.Prelude.{ℕ, zero, suc, ◌+◌, ◌*◌, ◌/◌, ◌%◌, Bool, true, false, List, [], ◌∷◌, ◌++◌, ltb, length, get_or, set, take, drop, None, Option, Some}
 use Rattle.std.specs.Int.Bits.{bit_or}
-use Rattle.lent.specs.declared.Found.{Found}
-use Rattle.lent.specs.declared.Found.TheVariants.{At, Nothing}
 
 -- the first where the test holds, else the second
 abbrev pub pick : {A : Type 0} → Bool → A → A → A
@@ -44,6 +42,6 @@ map_from f [] i = []
 map_from f (v ∷ l) i = f i v ∷ map_from f l (i + 1)
 
 -- the first place, from i on, whose element does not pass a test of place and element
-unfoldable pub fails_from : (ℕ → ℕ → Bool) → List ℕ → ℕ → Found
-fails_from f [] i = Nothing
-fails_from f (v ∷ l) i = pick (f i v) (fails_from f l (i + 1)) (At i)
+unfoldable pub fails_from : (ℕ → ℕ → Bool) → List ℕ → ℕ → Option ℕ
+fails_from f [] i = None
+fails_from f (v ∷ l) i = pick (f i v) (fails_from f l (i + 1)) (Some i)

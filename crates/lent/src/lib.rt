@@ -2,34 +2,45 @@
 // which is only quick without a test for each byte.
 #![tactic(auto)]
 
-ghost use Rattle.std.specs.Prelude.{◌-◌, ◌≤◌, ◌≡◌, length, replicate, set};
+ghost use Rattle.std.specs.Prelude.{◌-◌, ◌≤◌, ◌≡◌, length, replicate, set, slice_index_or};
 ghost use Rattle.lent.specs.Lent.{at, both, pair_at_of, pair_set_of, pasted_of, joined_of};
-
-// The place of what was looked for, where there is one.
-#[derive(Clone, Copy)]
-pub enum Found {
-    At(usize),
-    Nothing,
-}
 
 // Whether both hold.
 pub fn both(a: bool, b: bool) -> bool
     ensures { result ≡ both a b }
 {
-    if a {
-        return b;
-    }
-    false
+    a & b
 }
 
-// The byte at a place, and 0 past the end.
-pub fn peek(bytes: &[u8], i: usize) -> u8
-    ensures { result ≡ at bytes.now i }
-{
-    if i < bytes.len() {
-        return bytes[i];
+// A number of a lent slice: past the slice's end stands its 0.
+pub trait Number: Copy {
+    ghost nought: { Self };
+
+    fn zero() -> Self
+        ensures { result ≡ nought };
+}
+
+impl Number for u8 {
+    ghost nought = { 0 };
+
+    fn zero() -> u8 {
+        0u8
     }
-    0
+}
+
+impl Number for u16 {
+    ghost nought = { 0 };
+
+    fn zero() -> u16 {
+        0u16
+    }
+}
+
+// The number at a place, and 0 past the end.
+pub fn peek<T: Number>(items: &[T], i: usize) -> T
+    ensures { result ≡ slice_index_or items.now i T.nought }
+{
+    if i < items.len() { items[i] } else { T::zero() }
 }
 
 // A byte stored at a place; past the end nothing happens.
@@ -39,16 +50,6 @@ pub fn poke(bytes: &mut [u8], i: usize, v: u8)
     if i < bytes.len() {
         bytes[i] = v;
     }
-}
-
-// The word at a place, and 0 past the end.
-pub fn fetch(words: &[u16], i: usize) -> u16
-    ensures { result ≡ at words.now i }
-{
-    if i < words.len() {
-        return words[i];
-    }
-    0
 }
 
 // Two bytes from a place on as a number, high byte first.
@@ -79,16 +80,8 @@ pub fn paste(bytes: &mut [u8], i: usize, from: &[u8])
     ensures { bytes.new ≡ pasted_of bytes.old i from.now }
 {
     let n = from.len();
-    if bytes.len() < n {
-        return;
-    }
-    if bytes.len() - n < i {
-        return;
-    }
-    let mut k: usize = 0;
-    while k < n {
-        bytes[i + k] = from[k];
-        k += 1;
+    if n <= bytes.len() && i <= bytes.len() - n {
+        bytes[i..i + n].copy_from_slice(from);
     }
 }
 
@@ -96,11 +89,7 @@ pub fn paste(bytes: &mut [u8], i: usize, from: &[u8])
 pub fn clear(bytes: &mut [u8])
     ensures { bytes.new ≡ replicate (length bytes.old) 0 }
 {
-    let mut i: usize = 0;
-    while i < bytes.len() {
-        bytes[i] = 0;
-        i += 1;
-    }
+    bytes.fill(0);
 }
 
 // The bits of the bytes from a place on, below another, taken together.
@@ -109,10 +98,8 @@ pub fn joined(bytes: &[u8], a: usize, e: usize) -> u8
     ensures { result ≡ joined_of bytes.now a (e - a) }
 {
     let mut bits: u8 = 0;
-    let mut i = a;
-    while i < e {
-        bits = bits | bytes[i];
-        i += 1;
+    for b in &bytes[a..e] {
+        bits |= *b;
     }
     bits
 }

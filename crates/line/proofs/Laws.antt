@@ -1,26 +1,28 @@
 -- How long the parts of a line are, how they are laid one behind the other, and when a text begins with them.
+use Rattle.std.specs.Prelude.{None, Option, Some}
+use Rattle.std.specs.Option.{IfSome}
+use Rattle.std.specs.Bool.{then_some}
 use mathlib.Core.Path.{◌≡◌, ◌∙◌, refl, sym, ap}
 use mathlib.Core.Bool.{Bool, true, false}
 use mathlib.Core.List.{List, [], ◌∷◌, ◌++◌}
-use Prim.Native.Nat.{ℕ, zero, suc, ◌+◌, ◌^◌, ◌<◌, ◌≤◌}
+use Prim.Native.Nat.{ℕ, ◌+◌, ◌^◌, ◌<◌, ◌≤◌}
 use native.Mathlib.Omega.{arith}
 use lib.Dec.{ltb, eqb}
 use lib.ListN.{length, drop, set, length-append}
 use lib.Seq.{drop-drop, get_or-drop}
-use borrow.Author.Tests.{eq-eqb, ne_eqb, lt-ltb, le-ltb, eqb-true, ltb-true, ltb-false}
+use borrow.Author.Tests.{eq-eqb, ne_eqb, lt-ltb, le-ltb, ltb-true, ltb-false}
 use Rattle.lent.specs.Lent.{pick, both, at}
-use Rattle.lent.proofs.Laws.{test, both_true}
-use Rattle.text.specs.Text.{hex_of, number_in, letters_of, begins, laid_of}
-use Rattle.text.proofs.Laws.{laid_none, laid_on, hex_length, letters_length, begins_none, begins_append, begins_byte, begins_hex, both_both}
+use Rattle.lent.proofs.Laws.{test, never}
+use Rattle.text.specs.Text.{hex_of, number_in, begins, laid_of}
+use Rattle.text.proofs.Laws.{laid_none, laid_on, hex_length, says, begins_none, begins_append, begins_byte, begins_hex, both_both, both_none, both_some}
 use Rattle.word.specs.Word.{decode_of}
 use Rattle.word.proofs.Every.{every, every_at}
 use Rattle.mnemonics.specs.declared.Kind.{Kind}
 use Rattle.mnemonics.specs.declared.Shown.{Shown}
-use Rattle.mnemonics.specs.Mnemonics.{Fair, Fits, table, row_of, shown_of}
-use Rattle.mnemonics.specs.Names.{names, name_of, letters_in}
+use Rattle.mnemonics.specs.Mnemonics.{bound, Fair, Fits, table, row_of, shown_of, name_of}
 use Rattle.mnemonics.proofs.Laws.{word_fits}
-use Rattle.mnemonics.proofs.Rows.{row_letters, row_name, kinds_fair}
-use Rattle.line.specs.Line.{spaced_of, operand_of, operand_in, width_of, operands_of, line_of, word_in, good_of, line_in}
+use Rattle.mnemonics.proofs.Rows.{letters_few, kinds_fair}
+use Rattle.line.specs.Line.{spaced_of, operand_of, below, operand_in, width_of, operands_of, line_of, word_in, good_of, line_in}
 
 -- Lengths.
 
@@ -28,13 +30,15 @@ pub spaced_length : (d v : ℕ) → length (spaced_of d v) ≡ d + 1
 unfolding spaced_of
 spaced_length d v = omega (arith, length-append (hex_of d v) (32 ∷ []), hex_length d v)
 
-pub operand_length : (k : Kind) (v : ℕ) → length (operand_of k v) ≡ width_of k
+pub operand_length : (k : Option Kind) (v : ℕ) → length (operand_of k v) ≡ width_of k
 unfolding operand_of width_of
-operand_length k v = test (eqb k.digits 0) (λ e. rw e) (λ e. rw e (omega (arith, hex_length k.digits v)))
+operand_length None v = refl
+operand_length (Some k) v = omega (arith, hex_length k.digits v)
 
-pub width_few : (k : Kind) → Fair k → width_of k < 5
+pub width_few : (k : Option Kind) → IfSome k Fair → width_of k < 5
 unfolding width_of
-width_few k f = test (eqb k.digits 0) (λ e. rw e (omega arith)) (λ e. rw e (omega (arith, f.few)))
+width_few None f = omega arith
+width_few (Some k) f = omega (arith, f.few)
 
 pub operands_length : (s : Shown) → length (operands_of s) ≡ width_of (row_of s.row).first + width_of (row_of s.row).second + 1
 unfolding operands_of
@@ -64,61 +68,37 @@ place_next p s r f g = omega (arith, length-append s r)
 
 -- A number and a space.
 
-pub begins_spaced : (d v : ℕ) (t : List ℕ) → v < 0x10000 → v < 16 ^ d → begins (spaced_of d v) t ≡ both (eqb (number_in d t) v) (eqb (at t d) 32)
+pub begins_spaced : (d v : ℕ) (t : List ℕ) → v < 16 ^ d → begins (spaced_of d v) t ≡ both (says (number_in d t) v) (eqb (at t d) 32)
 unfolding spaced_of
-begins_spaced d v t h k =
+begins_spaced d v t k =
     let e : at (drop (length (hex_of d v)) t) 0 ≡ at t d = get_or-drop (length (hex_of d v)) t 0 0 ∙ ap (at t) (omega (arith, hex_length d v)) in
     begins_append (hex_of d v) (32 ∷ []) t
-    ∙ (ap (λ (b : Bool). both b (begins (32 ∷ []) (drop (length (hex_of d v)) t))) (begins_hex d v t h k)
-    ∙ ap (both (eqb (number_in d t) v)) (begins_byte 32 (drop (length (hex_of d v)) t) (omega arith) ∙ ap (λ (n : ℕ). eqb n 32) e))
+    ∙ (ap (λ (b : Bool). both b (begins (32 ∷ []) (drop (length (hex_of d v)) t))) (begins_hex d v t k)
+    ∙ ap (both (says (number_in d t) v)) (begins_byte 32 (drop (length (hex_of d v)) t) (omega arith) ∙ ap (λ (n : ℕ). eqb n 32) e))
 
 -- Operands, whatever their kind.
 
-pow_small : (d : ℕ) → d < 4 → 16 ^ d ≤ 4096
-pow_small zero h = omega arith
-pow_small (suc zero) h = omega arith
-pow_small (suc (suc zero)) h = omega arith
-pow_small (suc (suc (suc zero))) h = omega arith
-pow_small (suc (suc (suc (suc d)))) h = absurd (omega arith)
+spaced_operand : (b : Bool) (n : Option ℕ) (v m : ℕ) → v < m → both b (says n v) ≡ says (pick b (below n m) None) v
+spaced_operand false n v m h = refl
+spaced_operand true None v m h = refl
+spaced_operand true (Some n) v m h =
+    test (ltb n m) (λ g. rw g refl) (λ g. let b = ltb-false n m g in rw g (ne_eqb n v (λ q. omega arith)))
 
-pub number_fair : (k : Kind) {v : ℕ} → Fair k → v < k.below → (v < 16 ^ k.digits) × (v < 4096)
-number_fair k f h = (omega (arith, f.fits), omega (arith, f.fits, pow_small k.digits f.few))
-
-module _ (k : Kind) (v : ℕ) (t : List ℕ) (f : Fair k) (h : v < k.below) where
-  -- with a space in front
-  spaced_operand : both (eqb (at t 0) 32) (eqb (number_in k.digits (drop 1 t)) v) ≡ eqb (pick (eqb (at t 0) 32) (pick (ltb (number_in k.digits (drop 1 t)) k.below) (number_in k.digits (drop 1 t)) 0x10000) 0x10000) v
-  spaced_operand =
-      let n = number_in k.digits (drop 1 t) in
-      let s = (number_fair k f h).1 in
-      let off : false ≡ eqb 0x10000 v = sym (ne_eqb 0x10000 v (λ e. omega arith)) in
-      test (eqb (at t 0) 32)
-      (λ e. rw e
-      (test (ltb n k.below) (λ g. rw g refl)
-      (λ g. let b = ltb-false n k.below g in rw g (ne_eqb n v (λ q. omega arith) ∙ off))))
-      (λ e. rw e off)
-
-  -- THE OPERAND'S LAW: a text begins with an operand exactly when it is read there
-  pub begins_operand : begins (operand_of k v) t ≡ eqb (operand_in k t) v
-  unfolding operand_of operand_in
-  begins_operand =
-      test (eqb k.digits 0)
-      (λ e.
-      let z = eqb-true k.digits 0 e in
-      let n = f.fits in
-      let o : 16 ^ k.digits ≡ 1 = rw z in
-      rw e (begins_none t ∙ sym (eq-eqb 0 v (omega arith))))
-      (λ e.
-      rw e
-      (begins_append (32 ∷ []) (hex_of k.digits v) t
-      ∙ (ap (λ (b : Bool). both b (begins (hex_of k.digits v) (drop 1 t))) (begins_byte 32 t (omega arith))
-      ∙ (ap (both (eqb (at t 0) 32)) (begins_hex k.digits v (drop 1 t) (omega (arith, (number_fair k f h).1)) (number_fair k f h).0) ∙ spaced_operand))))
+-- THE OPERAND'S LAW: a text begins with an operand exactly when it is read there
+pub begins_operand : (k : Option Kind) (v : ℕ) (t : List ℕ) → IfSome k Fair → v < bound k → begins (operand_of k v) t ≡ says (operand_in k t) v
+unfolding operand_of operand_in
+begins_operand None v t f h = begins_none t ∙ sym (eq-eqb 0 v (omega arith))
+begins_operand (Some k) v t f h =
+    begins_append (32 ∷ []) (hex_of k.digits v) t
+    ∙ (ap (λ (b : Bool). both b (begins (hex_of k.digits v) (drop 1 t))) (begins_byte 32 t (omega arith))
+    ∙ (ap (both (eqb (at t 0) 32)) (begins_hex k.digits v (drop 1 t) (omega (arith, f.fits))) ∙ spaced_operand (eqb (at t 0) 32) (number_in k.digits (drop 1 t)) v k.below h))
 
 -- The operands and the line feed.
 module _ (s : Shown) (t : List ℕ) (f : Fits s) where
   pub begins_operands :
       begins (operands_of s) t
-      ≡ both (eqb (operand_in (row_of s.row).first t) s.first)
-      (both (eqb (operand_in (row_of s.row).second (drop (width_of (row_of s.row).first) t)) s.second)
+      ≡ both (says (operand_in (row_of s.row).first t) s.first)
+      (both (says (operand_in (row_of s.row).second (drop (width_of (row_of s.row).first) t)) s.second)
       (eqb (at t (width_of (row_of s.row).first + width_of (row_of s.row).second)) 10))
   unfolding operands_of
   begins_operands =
@@ -132,11 +112,11 @@ module _ (s : Shown) (t : List ℕ) (f : Fits s) where
       get_or-drop (length y) t' 0 0 ∙ (get_or-drop (width_of k) t (length y + 0) 0 ∙ ap (at t) (omega (arith, operand_length l s.second))) in
       begins_append x (y ++ (10 ∷ [])) t
       ∙ (ap (λ (b : Bool). both b (begins (y ++ (10 ∷ [])) (drop (length x) t))) (begins_operand k s.first t fair.0 f.first)
-      ∙ ap (both (eqb (operand_in k t) s.first))
+      ∙ ap (both (says (operand_in k t) s.first))
       (ap (λ (n : ℕ). begins (y ++ (10 ∷ [])) (drop n t)) (operand_length k s.first)
       ∙ (begins_append y (10 ∷ []) t'
       ∙ (ap (λ (b : Bool). both b (begins (10 ∷ []) (drop (length y) t'))) (begins_operand l s.second t' fair.1 f.second)
-      ∙ ap (both (eqb (operand_in l t') s.second)) (begins_byte 10 (drop (length y) t') (omega arith) ∙ ap (λ (n : ℕ). eqb n 10) e)))))
+      ∙ ap (both (says (operand_in l t') s.second)) (begins_byte 10 (drop (length y) t') (omega arith) ∙ ap (λ (n : ℕ). eqb n 10) e)))))
 
 -- THE LINE, part by part.
 pub begins_line : (a w : ℕ) (t : List ℕ) →
@@ -168,18 +148,17 @@ Laid l p s e l' = (e ≡ p + length s) × (l' ≡ laid_of l p s)
 laid_both : (l l' : List ℕ) {l'' : List ℕ} (p q : ℕ) {e : ℕ} (s r : List ℕ) → Laid l p s q l' → Laid l' q r e l'' → Laid l p (s ++ r) e l''
 laid_both l l' p q s r x y = (place_next p s r x.0 y.0, laid_next l l' p s r x.0 x.1 y.1)
 
-module _ (k : Kind) (v p : ℕ) (l : List ℕ) where
-  pub operand_none : k.digits ≡ 0 → Laid l p (operand_of k v) p l
+module _ (v p : ℕ) (l : List ℕ) {kind : Option Kind} where
+  pub operand_none : kind ≡ None → Laid l p (operand_of kind v) p l
   unfolding operand_of
-  operand_none e = rw (eq-eqb k.digits 0 e) (omega arith, sym (laid_none l p))
+  operand_none g = rw g (omega arith, sym (laid_none l p))
 
-  pub operand_laid : (l' : List ℕ) {l'' : List ℕ} → (k.digits ≡ 0 → ⊥) → l' ≡ set l p 32 → l'' ≡ laid_of l' (p + 1) (hex_of k.digits v) → Laid l p (operand_of k v) (p + 1 + k.digits) l''
+  pub operand_laid : (k : Kind) (l' : List ℕ) {l'' : List ℕ} → kind ≡ Some k → l' ≡ set l p 32 → l'' ≡ laid_of l' (p + 1) (hex_of k.digits v) → Laid l p (operand_of kind v) (p + 1 + k.digits) l''
   unfolding operand_of
-  operand_laid l' n e f =
-      rw (ne_eqb k.digits 0 n)
-      (laid_both l l' p (p + 1) (32 ∷ []) (hex_of k.digits v) (omega arith, laid_byte l p 32 e) (omega (arith, hex_length k.digits v), f))
+  operand_laid k l' g e f =
+      rw g (laid_both l l' p (p + 1) (32 ∷ []) (hex_of k.digits v) (omega arith, laid_byte l p 32 e) (omega (arith, hex_length k.digits v), f))
 
-pub operands_laid : (s : Shown) (p : ℕ) (l l₁ l₂ : List ℕ) {l₃ : List ℕ} {k k' : Kind} {q e : ℕ} →
+pub operands_laid : (s : Shown) (p : ℕ) (l l₁ l₂ : List ℕ) {l₃ : List ℕ} {k k' : Option Kind} {q e : ℕ} →
     k ≡ (row_of s.row).first → Laid l p (operand_of k s.first) q l₁ → k' ≡ (row_of s.row).second → Laid l₁ q (operand_of k' s.second) e l₂ → l₃ ≡ set l₂ e 10 →
     Laid l p (operands_of s) (e + 1) l₃
 unfolding operands_of
@@ -188,12 +167,10 @@ operands_laid s p l l₁ l₂ {q = q} {e = e} f x g y h =
     let w = operand_of (row_of s.row).second s.second in
     laid_both l l₁ p q v (w ++ (10 ∷ [])) (rw (← f) x) (laid_both l₁ l₂ q e w (10 ∷ []) (rw (← g) y) (omega arith, laid_byte l₂ e 10 h))
 
-pub items_laid : (s : Shown) (p : ℕ) (l l₁ : List ℕ) {l₂ : List ℕ} {n m e : ℕ} →
-    Fits s → n ≡ name_of s.row → m ≡ letters_in n → l₁ ≡ laid_of l p (letters_of m n) → Laid l₁ (p + m) (operands_of s) e l₂ →
+pub items_laid : (s : Shown) (p : ℕ) (l l₁ : List ℕ) {l₂ n : List ℕ} {e : ℕ} →
+    n ≡ (row_of s.row).name → l₁ ≡ laid_of l p n → Laid l₁ (p + length n) (operands_of s) e l₂ →
     Laid l p ((row_of s.row).name ++ operands_of s) e l₂
-items_laid s p l l₁ {n = n} {m = m} f g h x y =
-    let t : letters_of m n ≡ (row_of s.row).name = rw (h, g) (row_name s.row f.row) in
-    rw (← t) (laid_both l l₁ p (p + m) (letters_of m n) (operands_of s) (omega (arith, letters_length m n), x) y)
+items_laid s p l l₁ {n = n} {e = e} g x y = rw (← g) (laid_both l l₁ p (p + length n) n (operands_of s) (refl, x) y)
 
 pub line_laid : (a w p : ℕ) (l l₁ l₂ : List ℕ) {l₃ : List ℕ} {s : Shown} {e : ℕ} →
     s ≡ shown_of (decode_of w) → l₁ ≡ laid_of l p (spaced_of 3 a) → l₂ ≡ laid_of l₁ (p + 4) (spaced_of 4 w) → Laid l₂ (p + 9) ((row_of s.row).name ++ operands_of s) e l₃ →
@@ -205,136 +182,166 @@ line_laid a w p l l₁ l₂ f x y z =
 
 -- What each of them asks.
 
-pub fair_first : (s : Shown) {k : Kind} → Fits s → k ≡ (row_of s.row).first → Fair k
+pub fair_first : (s : Shown) {k : Option Kind} → Fits s → k ≡ (row_of s.row).first → IfSome k Fair
 fair_first s f e = rw e (kinds_fair s.row f.row).0
 
-pub fair_second : (s : Shown) {k : Kind} → Fits s → k ≡ (row_of s.row).second → Fair k
+pub fair_second : (s : Shown) {k : Option Kind} → Fits s → k ≡ (row_of s.row).second → IfSome k Fair
 fair_second s f e = rw e (kinds_fair s.row f.row).1
+
+pub named : (s : Shown) {n : List ℕ} → Fits s → n ≡ name_of s.row → n ≡ (row_of s.row).name
+unfolding name_of
+named s f e = rw (lt-ltb s.row 44 f.row) at e
+
+pub name_few : (s : Shown) {n : List ℕ} → Fits s → n ≡ (row_of s.row).name → length n < 6
+name_few s f e = rw e (letters_few s.row f.row)
 
 pub shown_fits : (w : ℕ) {s : Shown} → w < 65536 → s ≡ shown_of (decode_of w) → Fits s
 shown_fits w h e = rw e (word_fits w h)
 
-pub operand_near : (k : Kind) (v : ℕ) → Fair k → length (operand_of k v) < 5
+pub operand_near : (k : Option Kind) (v : ℕ) → IfSome k Fair → length (operand_of k v) < 5
 operand_near k v f = omega (arith, operand_length k v, width_few k f)
 
 -- What each function that reads answers.
 
-pub spaced_read : (t : List ℕ) (p d v : ℕ) {n c : ℕ} {r : Bool} → v < 0x10000 → v < 16 ^ d → n ≡ number_in d (drop p t) → c ≡ at t (p + d) → r ≡ both (eqb n v) (eqb c 32) → r ≡ begins (spaced_of d v) (drop p t)
-spaced_read t p d v h k e f g = rw (g, e, f) (sym (begins_spaced d v (drop p t) h k ∙ rw (get_or-drop p t d 0)))
+-- a test behind a test
 
-module _ (k : Kind) (t : List ℕ) (p : ℕ) where
-  pub read_none : k.digits ≡ 0 → 0 ≡ operand_in k (drop p t)
+pub and_then : (a b : Bool) {r : Bool} → both a b ≡ r → a ≡ true → b ≡ r
+and_then true b e f = e
+and_then false b e f = never f
+
+pub and_else : (a b : Bool) {r : Bool} → both a b ≡ r → a ≡ false → a ≡ r
+and_else true b e f = never (sym f)
+and_else false b e f = e
+
+both_off : (a b : Bool) → false ≡ both a (both b false)
+both_off true true = refl
+both_off true false = refl
+both_off false b = refl
+
+pub spaced_read : (t : List ℕ) (p d v : ℕ) {n : Option ℕ} {x : Bool} {c : ℕ} → v < 16 ^ d → n ≡ number_in d (drop p t) → x ≡ says n v → c ≡ at t (p + d) → both x (eqb c 32) ≡ begins (spaced_of d v) (drop p t)
+spaced_read t p d v k e x f = rw (x, e, f) (sym (begins_spaced d v (drop p t) k ∙ rw (get_or-drop p t d 0)))
+
+module _ (t : List ℕ) (p : ℕ) {kind : Option Kind} where
+  pub read_none : kind ≡ None → Some 0 ≡ operand_in kind (drop p t)
   unfolding operand_in
-  read_none e = rw (eq-eqb k.digits 0 e)
+  read_none e = rw e
 
-  module _ (n : k.digits ≡ 0 → ⊥) {c : ℕ} (e : c ≡ at t p) where
+  module _ (k : Kind) (g : kind ≡ Some k) {c : ℕ} (e : c ≡ at t p) where
     here : at (drop p t) 0 ≡ c
     here = get_or-drop p t 0 0 ∙ (ap (at t) (omega arith) ∙ sym e)
 
-    pub read_unspaced : (c ≡ 32 → ⊥) → 0x10000 ≡ operand_in k (drop p t)
+    pub read_unspaced : (c ≡ 32 → ⊥) → None ≡ operand_in kind (drop p t)
     unfolding operand_in
-    read_unspaced o = rw (ne_eqb k.digits 0 n, here, ne_eqb c 32 o)
+    read_unspaced o = rw (g, here, ne_eqb c 32 o)
 
-    module _ (o : c ≡ 32) {m : ℕ} (f : m ≡ number_in k.digits (drop (p + 1) t)) where
-      there : number_in k.digits (drop 1 (drop p t)) ≡ m
-      there = ap (number_in k.digits) (drop-drop 1 p t) ∙ sym f
-
-      pub read_number : m < k.below → m ≡ operand_in k (drop p t)
+    module _ (o : c ≡ 32) {m : Option ℕ} (f : m ≡ number_in k.digits (drop (p + 1) t)) where
+      read_spaced : below m k.below ≡ operand_in kind (drop p t)
       unfolding operand_in
-      read_number h = rw (ne_eqb k.digits 0 n, here, eq-eqb c 32 o, there, lt-ltb m k.below h)
+      read_spaced =
+          let there : number_in k.digits (drop 1 (drop p t)) ≡ m = ap (number_in k.digits) (drop-drop 1 p t) ∙ sym f in
+          rw (g, here, eq-eqb c 32 o, there)
 
-      pub read_over : k.below ≤ m → 0x10000 ≡ operand_in k (drop p t)
-      unfolding operand_in
-      read_over h = rw (ne_eqb k.digits 0 n, here, eq-eqb c 32 o, there, le-ltb m k.below h)
+      pub read_missing : m ≡ None → None ≡ operand_in kind (drop p t)
+      read_missing h = sym (ap (λ (n : Option ℕ). below n k.below) h) ∙ read_spaced
 
-pub operands_read : (s : Shown) (t : List ℕ) (p : ℕ) {k l : Kind} {u v x y c : ℕ} {b r : Bool} →
-    Fits s → k ≡ (row_of s.row).first → l ≡ (row_of s.row).second → u ≡ width_of k → x ≡ operand_in k (drop p t) → y ≡ operand_in l (drop (p + u) t) →
-    v ≡ width_of l → c ≡ at t (p + u + v) → b ≡ both (eqb y s.second) (eqb c 10) → r ≡ both (eqb x s.first) b →
-    r ≡ begins (operands_of s) (drop p t)
-operands_read s t p {u = u} {v = v} f e g i m n j q b r =
-    let w : at t (p + u + v) ≡ at (drop p t) (u + v) = ap (at t) (omega arith) ∙ sym (get_or-drop p t (u + v) 0) in
-    rw (r, b, m, n, q, w, ← (drop-drop u p t), i, j, e, g) (sym (begins_operands s (drop p t) f))
+      pub read_number : (n : ℕ) → m ≡ Some n → n < k.below → Some n ≡ operand_in kind (drop p t)
+      read_number n h i = sym (ap (λ (n : Option ℕ). below n k.below) h ∙ rw (lt-ltb n k.below i)) ∙ read_spaced
 
-module _ (s : Shown) (t : List ℕ) (p : ℕ) {n m : ℕ} {b : Bool} (f : Fits s) (g : n ≡ name_of s.row) (h : m ≡ letters_in n) (e : b ≡ begins (letters_of m n) (drop p t)) where
-  items_parts : begins ((row_of s.row).name ++ operands_of s) (drop p t) ≡ both b (begins (operands_of s) (drop (p + m) t))
-  items_parts =
-      let o : letters_of m n ≡ (row_of s.row).name = rw (h, g) (row_name s.row f.row) in
-      ap (λ (l : List ℕ). begins (l ++ operands_of s) (drop p t)) (sym o)
-      ∙ (begins_append (letters_of m n) (operands_of s) (drop p t)
-      ∙ (ap (λ (c : Bool). both c (begins (operands_of s) (drop (length (letters_of m n)) (drop p t)))) (sym e)
-      ∙ ap (λ (l : List ℕ). both b (begins (operands_of s) l)) (ap (λ (k : ℕ). drop k (drop p t)) (letters_length m n) ∙ drop-drop m p t)))
+      pub read_over : (n : ℕ) → m ≡ Some n → k.below ≤ n → None ≡ operand_in kind (drop p t)
+      read_over n h i = sym (ap (λ (n : Option ℕ). below n k.below) h ∙ rw (le-ltb n k.below i)) ∙ read_spaced
 
-  pub items_on : {r : Bool} → b ≡ true → r ≡ begins (operands_of s) (drop (p + m) t) → r ≡ begins ((row_of s.row).name ++ operands_of s) (drop p t)
-  items_on o q = q ∙ sym (items_parts ∙ rw o)
+module _ (s : Shown) (t : List ℕ) (p : ℕ) {k l : Option Kind} {u v c : ℕ}
+    (f : Fits s) (e : k ≡ (row_of s.row).first) (g : l ≡ (row_of s.row).second) (i : u ≡ width_of k) (j : v ≡ width_of l) (q : c ≡ at t (p + u + v)) where
+  operands_parts : both (says (operand_in k (drop p t)) s.first) (both (says (operand_in l (drop (p + u) t)) s.second) (eqb c 10)) ≡ begins (operands_of s) (drop p t)
+  operands_parts =
+      let w : at t (p + u + v) ≡ at (drop p t) (u + v) = ap (at t) (omega arith) ∙ sym (get_or-drop p t (u + v) 0) in
+      rw (q, w, ← (drop-drop u p t), i, j, e, g) (sym (begins_operands s (drop p t) f))
 
-  pub items_off : b ≡ false → false ≡ begins ((row_of s.row).name ++ operands_of s) (drop p t)
-  items_off o = sym (items_parts ∙ rw o)
+  pub operands_off : (c ≡ 10 → ⊥) → false ≡ begins (operands_of s) (drop p t)
+  operands_off o =
+      both_off (says (operand_in k (drop p t)) s.first) (says (operand_in l (drop (p + u) t)) s.second)
+      ∙ (ap (λ (b : Bool). both (says (operand_in k (drop p t)) s.first) (both (says (operand_in l (drop (p + u) t)) s.second) b)) (sym (ne_eqb c 10 o)) ∙ operands_parts)
 
-module _ (a w : ℕ) (t : List ℕ) (p : ℕ) (h : w < 65536) (o : w ≡ word_in (drop p t)) {c : ℕ} {x b : Bool} (d : c ≡ at t (p + 8)) (e : x ≡ begins (spaced_of 3 a) (drop p t)) (g : b ≡ both x (eqb c 32)) where
+  pub operands_on : {m n : Option ℕ} {x y : Bool} → c ≡ 10 → m ≡ operand_in k (drop p t) → n ≡ operand_in l (drop (p + u) t) → x ≡ says m s.first → y ≡ says n s.second → both x y ≡ begins (operands_of s) (drop p t)
+  operands_on o a b x y =
+      rw (x, y, a, b)
+      (ap (both (says (operand_in k (drop p t)) s.first)) (sym (both_some (says (operand_in l (drop (p + u) t)) s.second) (eqb c 10) (eq-eqb c 10 o))) ∙ operands_parts)
+
+pub items_parts : (s : Shown) (t : List ℕ) (p : ℕ) {n : List ℕ} {b : Bool} →
+    n ≡ (row_of s.row).name → b ≡ begins n (drop p t) → both b (begins (operands_of s) (drop (p + length n) t)) ≡ begins ((row_of s.row).name ++ operands_of s) (drop p t)
+items_parts s t p {n} g e = rw (← g, e) (sym (begins_append n (operands_of s) (drop p t) ∙ rw (drop-drop (length n) p t)))
+
+module _ (a w : ℕ) (t : List ℕ) (p : ℕ) (h : w < 65536) (o : Some w ≡ word_in (drop p t)) {c : ℕ} (d : c ≡ at t (p + 8)) where
   -- the word stands there; what is left to be looked at is the space behind it
   spaced_word : begins (spaced_of 4 w) (drop 4 (drop p t)) ≡ eqb c 32
   unfolding word_in
   spaced_word =
-      let n : eqb (number_in 4 (drop 4 (drop p t))) w ≡ true = eq-eqb (number_in 4 (drop 4 (drop p t))) w (sym o) in
+      let n : says (number_in 4 (drop 4 (drop p t))) w ≡ true = rw (← o) (eq-eqb w w refl) in
       let s : at (drop 4 (drop p t)) 4 ≡ c = get_or-drop 4 (drop p t) 4 0 ∙ (get_or-drop p t 8 0 ∙ sym d) in
-      begins_spaced 4 w (drop 4 (drop p t)) h h ∙ rw (n, s)
+      begins_spaced 4 w (drop 4 (drop p t)) h ∙ rw (n, s)
 
-  line_parts : begins (line_of a w) (drop p t) ≡ both b (begins ((row_of (shown_of (decode_of w)).row).name ++ operands_of (shown_of (decode_of w))) (drop (p + 9) t))
-  line_parts = begins_line a w (drop p t) ∙ rw (spaced_word, drop-drop 9 p t, ← e, ← g)
+  line_parts : both (both (begins (spaced_of 3 a) (drop p t)) (eqb c 32)) (begins ((row_of (shown_of (decode_of w)).row).name ++ operands_of (shown_of (decode_of w))) (drop (p + 9) t)) ≡ begins (line_of a w) (drop p t)
+  line_parts = sym (begins_line a w (drop p t) ∙ rw (spaced_word, drop-drop 9 p t))
 
-  pub line_on : {s : Shown} {r : Bool} → b ≡ true → s ≡ shown_of (decode_of w) → r ≡ begins ((row_of s.row).name ++ operands_of s) (drop (p + 9) t) → r ≡ begins (line_of a w) (drop p t)
-  line_on u i q = q ∙ (ap (λ (s : Shown). begins ((row_of s.row).name ++ operands_of s) (drop (p + 9) t)) i ∙ sym (line_parts ∙ rw u))
+  pub line_off : (c ≡ 32 → ⊥) → false ≡ begins (line_of a w) (drop p t)
+  line_off n = sym (sym line_parts ∙ rw (ne_eqb c 32 n, both_none (begins (spaced_of 3 a) (drop p t)) false refl))
 
-  pub line_off : b ≡ false → false ≡ begins (line_of a w) (drop p t)
-  line_off u = sym (line_parts ∙ rw u)
+  pub line_on : (s : Shown) {x : Bool} → c ≡ 32 → s ≡ shown_of (decode_of w) → x ≡ begins (spaced_of 3 a) (drop p t) → both x (begins ((row_of s.row).name ++ operands_of s) (drop (p + 9) t)) ≡ begins (line_of a w) (drop p t)
+  line_on s n i e = rw (e, i) (sym (sym line_parts ∙ rw (both_some (begins (spaced_of 3 a) (drop p t)) (eqb c 32) (eq-eqb c 32 n))))
 
-pub word_read : (t : List ℕ) (p : ℕ) {w : ℕ} → w ≡ number_in 4 (drop (p + 4) t) → w ≡ word_in (drop p t)
+pub word_read : (t : List ℕ) (p : ℕ) {w : Option ℕ} → w ≡ number_in 4 (drop (p + 4) t) → w ≡ word_in (drop p t)
 unfolding word_in
 word_read t p e = e ∙ sym (ap (number_in 4) (drop-drop 4 p t))
 
-module _ (a : ℕ) (t : List ℕ) (p : ℕ) {w : ℕ} (e : w ≡ word_in (drop p t)) where
-  pub no_word : 65536 ≤ w → 0x10000 ≡ line_in a (drop p t)
-  unfolding line_in good_of
-  no_word h = rw (← e, le-ltb w 65536 h)
+pub no_word : (a : ℕ) (t : List ℕ) → None ≡ word_in t → None ≡ line_in a t
+unfolding line_in good_of
+no_word a t e = rw (← e)
 
-  module _ (h : w < 65536) {b : Bool} (f : b ≡ begins (line_of a w) (drop p t)) where
-    pub good_word : b ≡ true → w ≡ line_in a (drop p t)
-    unfolding line_in good_of
-    good_word t = rw (← e, lt-ltb w 65536 h, ← f, t)
+pub good_word : (a : ℕ) (t : List ℕ) {w : ℕ} {b : Bool} → Some w ≡ word_in t → b ≡ begins (line_of a w) t → then_some b w ≡ line_in a t
+unfolding line_in good_of
+good_word a t {w} {b} e f = rw (← e, ← f) (go b)
+  where
+    go : (b : Bool) → then_some b w ≡ pick b (Some w) None
+    go true = refl
+    go false = refl
 
-    pub bad_line : b ≡ false → 0x10000 ≡ line_in a (drop p t)
-    unfolding line_in good_of
-    bad_line t = rw (← e, lt-ltb w 65536 h, ← f, t)
+-- HOW LONG lines are, by their rows: computed over all rows. The longest line has 21 bytes.
+abbrev size : ℕ → ℕ
+size n = 10 + length (row_of n).name + width_of (row_of n).first + width_of (row_of n).second
 
--- THE LENGTHS of lines, by their rows: computed over all rows. The longest line has 21 bytes.
-unfoldable pub lengths : List ℕ
-lengths =
-    17 ∷ 18 ∷ 17 ∷ 18 ∷ 17 ∷ 18 ∷ 17 ∷ 18 ∷ 17 ∷ 18 ∷ 16 ∷ 17 ∷ 17 ∷ 18 ∷ 17 ∷ 17 ∷ 19 ∷ 20 ∷ 19 ∷ 20 ∷ 21 ∷ 20 ∷ 21 ∷ 19 ∷ 17 ∷ 17 ∷ 17 ∷ 16 ∷ 17 ∷ 17 ∷ 17 ∷ 17 ∷ 18 ∷ 17 ∷ 17 ∷ 18 ∷ 14 ∷ 14 ∷ 14 ∷ 17 ∷ 13 ∷ 14 ∷ 13 ∷ 14 ∷ []
-
-unfoldable sized : ℕ → Bool
-sized n =
-    pick (ltb n 44)
-    (both (eqb (at lengths n) (10 + letters_in (name_of n) + width_of (row_of n).first + width_of (row_of n).second)) (ltb (at lengths n) 22))
-    true
-
-all_sized : every sized 6 0 ≡ true
-unfolding every sized lengths letters_in name_of names width_of row_of table
+all_sized : every (λ n. pick (ltb n 44) (ltb (size n) 22) true) 6 0 ≡ true
+unfolding every width_of row_of table
 all_sized = refl
 
-pub length_by_lem : (a w : ℕ) {n : ℕ} → w < 65536 → n ≡ (shown_of (decode_of w)).row → (at lengths n ≡ length (line_of a w)) × (at lengths n < 22)
-unfolding sized
-length_by_lem a w h e =
-    let s = shown_of (decode_of w) in
-    let m = s.row in
-    let f = word_fits w h in
-    let z : 0 + m ≡ m = omega arith in
-    let u : sized m ≡ true = rw z at (every_at sized 6 0 m all_sized (omega (arith, f.row))) in
-    let v = both_true (eqb (at lengths m) (10 + letters_in (name_of m) + width_of (row_of m).first + width_of (row_of m).second)) (ltb (at lengths m) 22) (rw (lt-ltb m 44 f.row) at u) in
-    let x = eqb-true (at lengths m) (10 + letters_in (name_of m) + width_of (row_of m).first + width_of (row_of m).second) v.0 in
-    rw e (omega (arith, x, line_length a w, operands_length s, row_letters m f.row), ltb-true (at lengths m) 22 v.1)
+sized : (n : ℕ) → n < 44 → size n < 22
+sized n h =
+    let z : 0 + n ≡ n = omega arith in
+    let u : pick (ltb n 44) (ltb (size n) 22) true ≡ true = rw z at (every_at (λ n. pick (ltb n 44) (ltb (size n) 22) true) 6 0 n all_sized (omega arith)) in
+    ltb-true (size n) 22 (rw (lt-ltb n 44 h) at u)
+
+pub line_size : (a w : ℕ) → size (shown_of (decode_of w)).row ≡ length (line_of a w)
+line_size a w = omega (arith, line_length a w, operands_length (shown_of (decode_of w)))
 
 pub line_few : (a w : ℕ) → w < 65536 → length (line_of a w) < 22
-line_few a w h = let l = length_by_lem a w h refl in omega (arith, l.0, l.1)
+line_few a w h = omega (arith, line_size a w, sized (shown_of (decode_of w)).row (word_fits w h).row)
+
+-- the parts of a word's line, counted
+module _ (w : ℕ) (h : w < 65536) {r : ℕ} (e : r ≡ (shown_of (decode_of w)).row) where
+  row_fits : r < 44
+  row_fits = rw e (word_fits w h).row
+
+  pub fair_first_of : {k : Option Kind} → k ≡ (row_of r).first → IfSome k Fair
+  fair_first_of f = rw f (kinds_fair r row_fits).0
+
+  pub fair_second_of : {k : Option Kind} → k ≡ (row_of r).second → IfSome k Fair
+  fair_second_of g = rw g (kinds_fair r row_fits).1
+
+  named_row : {n : List ℕ} → n ≡ name_of r → n ≡ (row_of r).name
+  unfolding name_of
+  named_row g = rw (lt-ltb r 44 row_fits) at g
+
+  pub size_parts : {n : List ℕ} {k l : Option Kind} {u v : ℕ} → n ≡ name_of r → k ≡ (row_of r).first → l ≡ (row_of r).second → u ≡ width_of k → v ≡ width_of l → (10 + length n + u + v ≡ length (line_of 0 w)) × (10 + length n + u + v < 22)
+  size_parts a f g b c = rw (named_row a, b, c, f, g) (rw e (line_size 0 w), sized r row_fits)
 
 -- a line is as long at any address
 pub line_same : (a w : ℕ) → length (line_of a w) ≡ length (line_of 0 w)

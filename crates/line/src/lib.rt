@@ -1,64 +1,16 @@
 // A line of a listing, written and read: address, word, mnemonic and operands (02, P3).
 #![tactic(auto)]
 
-ghost use Rattle.std.specs.Prelude.{◌≡◌, ◌++◌, ◌+◌, ◌≤◌, ◌<◌, ◌^◌, length, drop};
+ghost use Rattle.std.specs.Prelude.{◌≡◌, ◌++◌, ◌+◌, ◌≤◌, ◌<◌, ◌^◌, length, drop, IfSome, Some};
 ghost use Rattle.text.specs.Text.{begins, laid_of};
 ghost use Rattle.mnemonics.specs.Mnemonics.{row_of, Fair, Fits};
 ghost use Rattle.line.specs.Line.{spaced_of, operand_of, operand_in, width_of, operands_of, line_of, word_in, line_in};
 
 use mnemonics::{Kind, Shown};
 
-const SPACE: u8 = 32;
+const SPACE: u8 = b' ';
 
-const LINE_FEED: u8 = 10;
-
-// How many bytes the line of each row has.
-const LENGTHS: [usize; 44] = [
-    17, // ADC
-    18, // ADCM
-    17, // ADD
-    18, // ADDM
-    17, // SBC
-    18, // SBCM
-    17, // SUB
-    18, // SUBM
-    17, // EOR
-    18, // EORM
-    16, // OR
-    17, // ORM
-    17, // AND
-    18, // ANDM
-    17, // LDA
-    17, // STA
-    19, // ADI
-    20, // ADIM
-    19, // SBI
-    20, // SBIM
-    21, // EORIM
-    20, // ORIM
-    21, // ANDIM
-    19, // LDI
-    17, // BNZ
-    17, // BNC
-    17, // BAZ
-    16, // BC
-    17, // BA0
-    17, // BA1
-    17, // BA2
-    17, // BA3
-    18, // CALL
-    17, // DAA
-    17, // DAS
-    18, // RTNW
-    14, // RTNI
-    14, // HALT
-    14, // STOP
-    17, // JMP
-    13, // SHR
-    14, // TJMP
-    13, // NOP
-    14, // DATA
-];
+const LINE_FEED: u8 = b'\n';
 
 // A number and a space.
 fn put_spaced(room: &mut [u8], p: usize, digits: usize, v: u16)
@@ -69,17 +21,19 @@ fn put_spaced(room: &mut [u8], p: usize, digits: usize, v: u16)
     lent::poke(room, p + digits, SPACE);
 }
 
-// An operand of any kind, and the place behind it.
-fn put_operand(room: &mut [u8], p: usize, k: Kind, v: u16) -> usize
-    requires { (p ≤ 900000) × Fair k }
-    ensures { (result ≡ p + length (operand_of k v)) × (room.new ≡ laid_of room.old p (operand_of k v)) }
+// An operand of any kind, if there is one, and the place behind it.
+fn put_operand(room: &mut [u8], p: usize, kind: Option<Kind>, v: u16) -> usize
+    requires { (p ≤ 900000) × IfSome kind Fair }
+    ensures { (result ≡ p + length (operand_of kind v)) × (room.new ≡ laid_of room.old p (operand_of kind v)) }
 {
-    if k.digits == 0 {
-        return p;
+    match kind {
+        None => p,
+        Some(k) => {
+            lent::poke(room, p, SPACE);
+            text::put_number(room, p + 1, k.digits, v);
+            p + 1 + k.digits
+        }
     }
-    lent::poke(room, p, SPACE);
-    text::put_number(room, p + 1, k.digits, v);
-    p + 1 + k.digits
 }
 
 // The operands and the line feed, and the place behind them.
@@ -99,9 +53,8 @@ fn put_items(room: &mut [u8], p: usize, s: Shown) -> usize
     ensures { (result ≡ p + length ((row_of s.row).name ++ operands_of s)) × (room.new ≡ laid_of room.old p ((row_of s.row).name ++ operands_of s)) }
 {
     let name = mnemonics::name(s.row);
-    let letters = mnemonics::letters(name);
-    text::put_letters(room, p, letters, name);
-    put_operands(room, p + letters, s)
+    text::put_letters(room, p, name);
+    put_operands(room, p + name.len(), s)
 }
 
 // The line of a word at an address, from a place on, and the place behind it.
@@ -117,23 +70,21 @@ pub fn put(room: &mut [u8], p: usize, a: u16, w: u16) -> usize
 
 // How many bytes an operand takes.
 #[tactic(auto, unfolding(crate::specs::Line::width_of))]
-fn width(k: Kind) -> usize
-    requires { Fair k }
-    ensures { result ≡ width_of k }
+fn width(kind: Option<Kind>) -> usize
+    requires { IfSome kind Fair }
+    ensures { result ≡ width_of kind }
 {
-    if k.digits == 0 {
-        return 0;
-    }
-    1 + k.digits
+    kind.map_or(0, |k| 1 + k.digits)
 }
 
-// How many bytes a word's line has, whatever its address.
-#[tactic(auto, unfolding(crate::proofs::Laws::lengths))]
+// How many bytes a word's line has, whatever its address: address, word, a space behind each and the line feed are ten.
 pub fn length(w: u16) -> usize
     ensures { (result ≡ length (line_of 0 w)) × (result < 22) }
 {
     let row = mnemonics::row_of(w);
-    LENGTHS[row]
+    let first = width(mnemonics::first(row));
+    let second = width(mnemonics::second(row));
+    10 + mnemonics::name(row).len() + first + second
 }
 
 // Whether a number and a space stand at a place.
@@ -141,28 +92,25 @@ fn spaced(text: &[u8], p: usize, digits: usize, v: u16) -> bool
     requires { (p ≤ 900000) × ((digits ≤ 4) × (v < 16 ^ digits)) }
     ensures { result ≡ begins (spaced_of digits v) (drop p text.now) }
 {
-    let n = text::number(text, p, digits);
-    let c = lent::peek(text, p + digits);
-    lent::both(n == v as u32, c == SPACE)
+    text::number(text, p, digits) == Some(v) && lent::peek(text, p + digits) == SPACE
 }
 
-// The number that an operand of any kind says at a place.
-fn operand(text: &[u8], p: usize, k: Kind) -> u32
-    requires { (p ≤ 900000) × Fair k }
-    ensures { result ≡ operand_in k (drop p text.now) }
+// The number that an operand of any kind says at a place, where it is one that the kind may be; 0 where there is no operand.
+fn operand(text: &[u8], p: usize, kind: Option<Kind>) -> Option<u16>
+    requires { (p ≤ 900000) × IfSome kind Fair }
+    ensures { result ≡ operand_in kind (drop p text.now) }
 {
-    if k.digits == 0 {
-        return 0;
+    match kind {
+        None => Some(0),
+        Some(k) => {
+            let c = lent::peek(text, p);
+            if c != SPACE {
+                return None;
+            }
+            let n = text::number(text, p + 1, k.digits)?;
+            if n < k.below { Some(n) } else { None }
+        }
     }
-    let c = lent::peek(text, p);
-    if c != SPACE {
-        return 0x10000;
-    }
-    let n = text::number(text, p + 1, k.digits);
-    if n < k.below {
-        return n;
-    }
-    0x10000
 }
 
 // Whether the operands that a word shows and a line feed stand at a place.
@@ -173,13 +121,11 @@ fn operands(text: &[u8], p: usize, s: Shown) -> bool
     let k = mnemonics::first(s.row);
     let l = mnemonics::second(s.row);
     let q = p + width(k);
-    let first = operand(text, p, k);
-    let second = operand(text, q, l);
     let c = lent::peek(text, q + width(l));
-    lent::both(
-        first == s.first as u32,
-        lent::both(second == s.second as u32, c == LINE_FEED),
-    )
+    if c != LINE_FEED {
+        return false;
+    }
+    operand(text, p, k) == Some(s.first) && operand(text, q, l) == Some(s.second)
 }
 
 // Whether the mnemonic that a word shows stands at a place, with all that follows it.
@@ -188,36 +134,26 @@ fn items(text: &[u8], p: usize, s: Shown) -> bool
     ensures { result ≡ begins ((row_of s.row).name ++ operands_of s) (drop p text.now) }
 {
     let name = mnemonics::name(s.row);
-    let letters = mnemonics::letters(name);
-    if text::shows(text, p, letters, name) {
-        return operands(text, p + letters, s);
-    }
-    false
+    text::shows(text, p, name) && operands(text, p + name.len(), s)
 }
 
 // Whether a word's line for an address stands at a place, where the word does.
 fn is_line(text: &[u8], p: usize, a: u16, w: u16) -> bool
-    requires { (p ≤ 800000) × ((a < 4096) × (w ≡ word_in (drop p text.now))) }
+    requires { (p ≤ 800000) × ((a < 4096) × (Some w ≡ word_in (drop p text.now))) }
     ensures { result ≡ begins (line_of a w) (drop p text.now) }
 {
     let c = lent::peek(text, p + 8);
-    if lent::both(spaced(text, p, 3, a), c == SPACE) {
-        return items(text, p + 9, mnemonics::show(w));
+    if c != SPACE {
+        return false;
     }
-    false
+    spaced(text, p, 3, a) && items(text, p + 9, mnemonics::show(w))
 }
 
-// The word of the line at a place, where it is good for an address; else more than any word.
-pub fn read(text: &[u8], p: usize, a: u16) -> u32
+// The word of the line at a place, where it is good for an address.
+pub fn read(text: &[u8], p: usize, a: u16) -> Option<u16>
     requires { (p ≤ 800000) × (a < 4096) }
     ensures { result ≡ line_in a (drop p text.now) }
 {
-    let w = text::number(text, p + 4, 4);
-    if 0xFFFF < w {
-        return 0x10000;
-    }
-    if is_line(text, p, a, w as u16) {
-        return w;
-    }
-    0x10000
+    let w = text::number(text, p + 4, 4)?;
+    is_line(text, p, a, w).then_some(w)
 }

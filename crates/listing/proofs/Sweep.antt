@@ -1,16 +1,18 @@
 -- All 65,536 words, computed: a word is listed exactly when it lies in a range that 01 names; 55,814 are listed, the other 9,722 are not.
+use Rattle.std.specs.Prelude.{Err, Ok, Result, is_ok}
 use mathlib.Core.Path.{◌≡◌, ◌∙◌, refl, sym, ap}
 use mathlib.Core.Bool.{Bool, true, false, not, beq}
 use Prim.Native.Nat.{ℕ, zero, suc, ◌+◌, ◌^◌, ◌<◌}
 use native.Mathlib.Omega.{arith}
 use native.Mathlib.Nat.{two-pow-succ}
 use Rattle.lent.specs.Lent.{pick}
-use Rattle.word.specs.declared.Decoded.{Decoded}
 use Rattle.refusal.specs.Told.{said, done_told}
 use Rattle.word.specs.Word.{decode_of, accumulator_of, transfer_of, control_of, decoded_told}
 use Rattle.listing.specs.Ranges.{is_listed, listed, within, named_by01, how_many}
 use Rattle.word.proofs.Every.{every, every_at}
 use Rattle.word.proofs.RoundTrip.{decode_refused}
+use Rattle.refusal.specs.declared.Refusal.{Refusal}
+use Rattle.word.specs.declared.Instruction.{Instruction}
 
 all_agree : every (λ w. beq (listed w) (named_by01 w)) 16 0 ≡ true
 unfolding every decode_of accumulator_of transfer_of control_of within
@@ -56,10 +58,14 @@ pub read_told : (w : ℕ) → w < 65536 → decoded_told (decode_of w) ≡ pick 
 unfolding decoded_told
 read_told w h = by_reading (decode_of w) refl ∙ ap (λ b. pick b done_told (said 6 w)) (listed_named w h)
   where
-    by_reading : (d : Decoded) → decode_of w ≡ d → decoded_told (decode_of w) ≡ pick (listed w) done_told (said 6 w)
-    by_reading (Decoded.Listed i) e = rw e
-    by_reading (Decoded.Refused why) e = decode_refused w why e ∙ rw e
+    by_reading : (d : Result Instruction Refusal) → decode_of w ≡ d → decoded_told (decode_of w) ≡ pick (listed w) done_told (said 6 w)
+    by_reading (Ok i) e = rw e
+    by_reading (Err why) e = decode_refused w why e ∙ rw e
 
--- what a match on the reading of a word leaves
-pub named_at : {d j : Decoded} {r : Bool} (w : ℕ) → w < 65536 → d ≡ decode_of w → d ≡ j → r ≡ is_listed j → r ≡ named_by01 w
-named_at w h e p q = q ∙ (ap is_listed (sym p ∙ e) ∙ listed_named w h)
+-- whether a word is read at all
+pub named_ok : (w : ℕ) → w < 65536 → is_ok (decode_of w) ≡ named_by01 w
+named_ok w h = read (decode_of w) ∙ listed_named w h
+  where
+    read : (d : Result Instruction Refusal) → is_ok d ≡ is_listed d
+    read (Ok i) = refl
+    read (Err why) = refl

@@ -1,12 +1,13 @@
 -- Which words are listed: by decodeOf, and by the ranges as 01 prints them.
-use Rattle.std.specs.Prelude.{ℕ, zero, suc, ◌+◌, ◌^◌, Bool, true, false, List, [], ◌∷◌, leb}
+use Rattle.std.specs.Prelude.{ℕ, zero, suc, ◌+◌, ◌^◌, Bool, true, false, List, [], ◌∷◌, leb, Err, Ok, Result}
 use Rattle.lent.specs.Lent.{pick, both}
-use Rattle.word.specs.declared.Decoded.{Decoded}
 use Rattle.word.specs.Word.{decode_of}
+use Rattle.refusal.specs.declared.Refusal.{Refusal}
+use Rattle.word.specs.declared.Instruction.{Instruction}
 
-abbrev pub is_listed : Decoded → Bool
-is_listed (Decoded.Listed i) = true
-is_listed (Decoded.Refused why) = false
+abbrev pub is_listed : Result Instruction Refusal → Bool
+is_listed (Ok i) = true
+is_listed (Err why) = false
 
 -- the word is read as an instruction
 abbrev pub listed : ℕ → Bool

@@ -4,14 +4,10 @@
 ghost use Rattle.std.specs.Prelude.{◌≡◌};
 ghost use Rattle.listing.specs.Ranges.{named_by01};
 
-use word::Decoded;
-
 // Whether a word is listed: what is read as an instruction is what the ranges of 01 name.
+#[tactic(auto, using(crate::proofs::Sweep::named_ok))]
 pub fn listed(word: u16) -> bool
     ensures { result ≡ named_by01 word }
 {
-    match word::decode(word) {
-        Decoded::Listed(_) => true,
-        Decoded::Refused(_) => false,
-    }
+    word::decode(word).is_ok()
 }

@@ -1,13 +1,21 @@
 // A case: a fresh machine, what is changed on it, and the script that both calls are given.
-use crate::reader::Line;
+use crate::reader::Order;
 use crate::{drawn, show};
-use answer::{Answer, Outcome};
+use answer::Answer;
 use call_step::step;
 use refusal::Refusal;
 use sh_state::machine::Machine;
 use std::io;
 use std::io::Write;
 use wire::record;
+
+// Room for one word and one cell more than the chip has.
+pub const ROOM_WORDS: usize = Machine::WORDS + 1;
+
+pub const ROOM_CELLS: usize = Machine::CELLS + 1;
+
+// How many events a script has at the most.
+pub const ROOM_EVENTS: usize = 8192;
 
 const NOP: u16 = 0xFFFF;
 
@@ -17,182 +25,129 @@ const PLACES: [u8; 32] = [
     37, 39, 40, 42, 43, 44, 45,
 ];
 
+// A machine, and how many words and cells are lent.
 #[derive(Clone, Copy)]
 pub struct Case {
     machine: Machine,
-    // how many words, cells and events are lent
     words: usize,
     cells: usize,
-    events: usize,
 }
 
-// How far single steps came.
-#[derive(Clone, Copy)]
-struct Progress {
-    answer: Answer,
-    events: usize,
-}
+impl Case {
+    pub fn none() -> Self {
+        Self::of(Machine::fresh(0))
+    }
 
-pub fn none() -> Case {
-    started(Machine::fresh(0))
-}
-
-fn started(machine: Machine) -> Case {
-    Case {
-        machine,
-        words: Machine::WORDS,
-        cells: Machine::CELLS,
-        events: 0,
+    // A machine that is lent what the chip has.
+    fn of(machine: Machine) -> Self {
+        Self {
+            machine,
+            words: Machine::WORDS,
+            cells: Machine::CELLS,
+        }
     }
 }
 
-// N options: a fresh machine. W address word, M address byte, R field number: a word, a cell, a field of the record. L words cells: how many are lent. S count event: events at the script's end. P seed, X count seed: a program and events that are drawn. G stop: the script is stepped and run.
+// The case after an order.
 pub fn done(
     out: &mut impl Write,
     case: Case,
-    line: Line,
-    program: &mut [u16],
-    memory: &mut [u8],
-    again: &mut [u8],
-    script: &mut [u8],
+    order: Order,
+    program: &mut [u16; ROOM_WORDS],
+    memory: &mut [u8; ROOM_CELLS],
+    script: &mut Vec<u8>,
 ) -> io::Result<Case> {
-    let at = line.first as usize;
-    let word = (line.second % 0x10000) as u16;
-    let byte = (line.second % 256) as u8;
-    if line.letter == b'N' {
-        return fresh_case(out, line.second, program, memory);
-    }
-    if line.letter == b'W' {
-        put_word(program, at, word);
-        return Ok(case);
-    }
-    if line.letter == b'M' {
-        lent::poke(memory, at, byte);
-        return Ok(case);
-    }
-    if line.letter == b'R' {
-        return Ok(with_field(case, line.first, word));
-    }
-    if line.letter == b'L' {
-        return Ok(with_lengths(case, at, line.second as usize));
-    }
-    if line.letter == b'S' {
-        return Ok(with_events(case, script, line.first, byte));
-    }
-    if line.letter == b'P' {
-        drawn::program(program, line.second);
-        return Ok(case);
-    }
-    if line.letter == b'X' {
-        return Ok(with_drawn(case, script, line.first, line.second));
-    }
-    if line.letter == b'G' {
-        return gone(out, case, line.second, program, memory, again, script);
+    match order {
+        Order::Fresh(options) => {
+            script.clear();
+            return fresh(out, options, program, memory);
+        }
+        Order::Go(stop) => return gone(out, case, stop, program, memory, script),
+        Order::Field(field, value) => return Ok(Case {
+            machine: changed(case.machine, field, value),
+            ..case
+        }),
+        Order::Lend(words, cells) => return Ok(Case {
+            words,
+            cells,
+            ..case
+        }),
+        Order::Word(address, word) => put_word(program, address, word),
+        Order::Cell(address, value) => lent::poke(memory, address, value),
+        Order::Program(seed) => draw(program, seed),
+        Order::Events(count, event) => append(script, count, || event)?,
+        Order::Drawn(count, seed) => append_drawn(script, count, seed)?,
     }
     Ok(case)
 }
 
-fn put_word(program: &mut [u16], i: usize, word: u16) {
-    if i < program.len() {
-        program[i] = word;
+fn put_word(program: &mut [u16], address: usize, word: u16) {
+    if let Some(place) = program.get_mut(address) {
+        *place = word;
     }
 }
 
-fn fresh_case(
+// A whole program that is drawn.
+fn draw(program: &mut [u16], seed: u32) {
+    let mut x = seed;
+    for word in program {
+        *word = drawn::word(x);
+        x = drawn::next(x);
+    }
+}
+
+// Events at the script's end, as many as asked and as the room allows.
+fn append<F: FnMut() -> u8>(script: &mut Vec<u8>, count: usize, mut event: F) -> io::Result<()>
+    requires { F.IsAlwaysCallable event }
+{
+    let room = ROOM_EVENTS.saturating_sub(script.len());
+    for _ in 0..count.min(room) {
+        script.push(event())?;
+    }
+    Ok(())
+}
+
+// Events that are drawn, one after another.
+fn append_drawn(script: &mut Vec<u8>, count: usize, seed: u32) -> io::Result<()> {
+    let mut x = seed;
+    append(script, count, || {
+        let event = drawn::event(x);
+        x = drawn::next(x);
+        event
+    })
+}
+
+fn fresh(
     out: &mut impl Write,
     options: u32,
-    program: &mut [u16],
-    memory: &mut [u8],
+    program: &mut [u16; ROOM_WORDS],
+    memory: &mut [u8; ROOM_CELLS],
 ) -> io::Result<Case> {
-    clear_program(program);
-    lent::clear(memory);
-    let n = Machine::CELLS;
-    if n <= memory.len() {
-        return fresh_on(out, options, &mut memory[..n]);
-    }
-    Ok(none())
-}
-
-fn fresh_on(out: &mut impl Write, options: u32, memory: &mut [u8]) -> io::Result<Case> {
-    let a = call_fresh::fresh(options, memory);
-    let o = a.outcome;
-    show::text(out, b"fresh")?;
-    show::outcome(out, o)?;
-    show::text(out, b"\n")?;
-    let m = a.machine;
-    Ok(started(m))
-}
-
-fn clear_program(program: &mut [u16]) {
-    for word in program.iter_mut() {
-        *word = NOP;
-    }
-}
-
-fn with_lengths(case: Case, words: usize, cells: usize) -> Case {
-    let mut after = case;
-    after.words = words;
-    after.cells = cells;
-    after
-}
-
-fn with_field(case: Case, field: u32, value: u16) -> Case {
-    let m = changed(case.machine, field, value);
-    Case {
-        machine: m,
-        words: case.words,
-        cells: case.cells,
-        events: case.events,
-    }
+    program.fill(NOP);
+    memory.fill(0);
+    let a = call_fresh::fresh(options, &mut memory[..Machine::CELLS]);
+    writeln!(out, "fresh{}", show::Outcome(a.outcome))?;
+    Ok(Case::of(a.machine))
 }
 
 // The record with its field of a number changed.
-fn changed(m: Machine, field: u32, value: u16) -> Machine {
+fn changed(m: Machine, field: usize, value: u16) -> Machine {
     let mut bytes = record::bytes_of(m);
-    put_field(&mut bytes, field as usize, value);
+    put_field(&mut bytes, field, value);
     record::record_of(&bytes)
 }
 
 fn put_field(bytes: &mut [u8], field: usize, value: u16) {
-    if 30 < field {
+    if field >= PLACES.len() - 1 {
         return;
     }
-    let at = (PLACES[field] % 64) as usize;
-    let next = (PLACES[field + 1] % 64) as usize;
+    let at = PLACES[field] as usize;
+    let next = PLACES[field + 1] as usize;
     if at + 2 == next {
         lent::pair_set(bytes, at, value);
-        return;
+    } else {
+        lent::poke(bytes, at, (value % 256) as u8);
     }
-    lent::poke(bytes, at, (value % 256) as u8);
-}
-
-fn with_events(case: Case, script: &mut [u8], count: u32, event: u8) -> Case {
-    let from = case.events;
-    let n = appended(script, from, count, event);
-    let mut after = case;
-    after.events = n;
-    after
-}
-
-fn with_drawn(case: Case, script: &mut [u8], count: u32, seed: u32) -> Case {
-    let from = case.events;
-    let n = drawn::events(script, from, count, seed);
-    let mut after = case;
-    after.events = n;
-    after
-}
-
-// An event put behind the first ones, as often as asked and as the room allows; how many there are then.
-fn appended(script: &mut [u8], from: usize, count: u32, event: u8) -> usize {
-    let mut at = from;
-    for _ in 0..count {
-        if at >= script.len() {
-            return at;
-        }
-        script[at] = event;
-        at += 1;
-    }
-    at
 }
 
 // The case after its script, which is then empty.
@@ -201,58 +156,21 @@ fn gone(
     case: Case,
     stop: u32,
     program: &[u16],
-    memory: &mut [u8],
-    again: &mut [u8],
-    script: &[u8],
+    memory: &mut [u8; ROOM_CELLS],
+    script: &mut Vec<u8>,
 ) -> io::Result<Case> {
-    let n = case.words;
-    if n <= program.len() {
-        return gone_words(out, case, stop, &program[..n], memory, again, script);
-    }
-    Ok(case)
-}
-
-fn gone_words(
-    out: &mut impl Write,
-    case: Case,
-    stop: u32,
-    program: &[u16],
-    memory: &mut [u8],
-    again: &mut [u8],
-    script: &[u8],
-) -> io::Result<Case> {
-    let n = case.events;
-    if n <= script.len() {
-        return gone_events(out, case, stop, program, memory, again, &script[..n]);
-    }
-    Ok(case)
-}
-
-fn gone_events(
-    out: &mut impl Write,
-    case: Case,
-    stop: u32,
-    program: &[u16],
-    memory: &mut [u8],
-    again: &mut [u8],
-    script: &[u8],
-) -> io::Result<Case> {
-    let n = case.cells;
-    if n > memory.len() {
+    let mut again = *memory;
+    let (Some(program), Some(memory), Some(again)) = (
+        program.get(..case.words),
+        memory.get_mut(..case.cells),
+        again.get_mut(..case.cells),
+    ) else {
         return Ok(case);
-    }
-    if n > again.len() {
-        return Ok(case);
-    }
-    lent::paste(again, 0, memory);
-    stepped(out, program, case.machine, &mut again[..n], script)?;
-    let m = ran(out, program, case.machine, &mut memory[..n], script, stop)?;
-    Ok(Case {
-        machine: m,
-        words: case.words,
-        cells: case.cells,
-        events: 0,
-    })
+    };
+    stepped(out, program, case.machine, again, script)?;
+    let machine = ran(out, program, case.machine, memory, script, stop)?;
+    script.clear();
+    Ok(Case { machine, ..case })
 }
 
 // The script by one call of run.
@@ -265,9 +183,7 @@ fn ran(
     stop: u32,
 ) -> io::Result<Machine> {
     let a = call_run::run(program, m, memory, script, stop);
-    let why = a.reason;
-    show::text(out, b"run")?;
-    show::reason(out, why)?;
+    write!(out, "run{}", show::Reason(a.reason))?;
     show::left(out, a.events, a.machine, memory)?;
     Ok(a.machine)
 }
@@ -280,39 +196,22 @@ fn stepped(
     memory: &mut [u8],
     script: &[u8],
 ) -> io::Result<()> {
-    let s = steps(program, m, memory, script);
-    let a = s.answer;
-    let o = a.outcome;
-    show::text(out, b"step")?;
-    show::outcome(out, o)?;
-    show::left(out, s.events, a.machine, memory)
+    let (a, events) = steps(program, m, memory, script);
+    write!(out, "step{}", show::Outcome(a.outcome))?;
+    show::left(out, events, a.machine, memory)
 }
 
-fn steps(program: &[u16], m: Machine, memory: &mut [u8], script: &[u8]) -> Progress {
-    let mut now = m;
+// What the last step answers, and how many were done before it was refused.
+fn steps(program: &[u16], m: Machine, memory: &mut [u8], script: &[u8]) -> (Answer, usize) {
+    let mut last = Answer {
+        outcome: Ok(()),
+        machine: m,
+    };
     for (i, event) in script.iter().enumerate() {
-        let a = step::step(program, now, memory, *event);
-        now = a.machine;
-        let o = a.outcome;
-        if let Outcome::Refused(why) = o {
-            return refused(why, now, i);
+        last = step::step(program, last.machine, memory, *event);
+        if last.outcome.is_err() {
+            return (last, i);
         }
     }
-    Progress {
-        answer: Answer {
-            outcome: Outcome::Done,
-            machine: now,
-        },
-        events: script.len(),
-    }
-}
-
-fn refused(why: Refusal, m: Machine, events: usize) -> Progress {
-    Progress {
-        answer: Answer {
-            outcome: Outcome::Refused(why),
-            machine: m,
-        },
-        events,
-    }
+    (last, script.len())
 }

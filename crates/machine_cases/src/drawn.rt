@@ -7,58 +7,23 @@ const RARE: [u16; 16] = [
 ];
 
 // The number after another.
-fn next(x: u64) -> u64 {
-    (x % 0x100000000 * 1664525 + 1013904223) % 0x100000000
+pub fn next(x: u32) -> u32 {
+    x.wrapping_mul(1664525).wrapping_add(1013904223)
 }
 
 // A listed word.
-fn word(x: u64) -> u16 {
-    let w = (x / 0x10000 % 0x10000) as u16;
-    if w < 0xC800 {
+pub fn word(x: u32) -> u16 {
+    let w = (x / 0x10000) as u16;
+    if w < 0xC800 || w / 0x1000 == 0xE {
         return w;
     }
-    if w / 0x1000 == 0xE {
-        return w;
-    }
-    let i = (w % 16) as usize;
-    RARE[i]
+    RARE[(w % 16) as usize]
 }
 
 // A known event; about half are cycles.
-fn event(x: u64) -> u8 {
-    let e = (x / 0x10000 % 128) as u8;
-    if e < 0x04 {
-        return e;
+pub fn event(x: u32) -> u8 {
+    match (x / 0x10000 % 128) as u8 {
+        e @ (0x00..=0x03 | 0x10..=0x4F) => e,
+        _ => 0,
     }
-    if e < 0x10 {
-        return 0;
-    }
-    if e < 0x50 {
-        return e;
-    }
-    0
-}
-
-// A whole program.
-pub fn program(words: &mut [u16], seed: u32) {
-    let mut x = seed as u64;
-    for place in words.iter_mut() {
-        *place = word(x);
-        x = next(x);
-    }
-}
-
-// Events put behind the first ones, as many as asked and as the room allows; how many there are then.
-pub fn events(script: &mut [u8], from: usize, count: u32, seed: u32) -> usize {
-    let mut x = seed as u64;
-    let mut at = from;
-    for _ in 0..count {
-        if at >= script.len() {
-            return at;
-        }
-        script[at] = event(x);
-        at += 1;
-        x = next(x);
-    }
-    at
 }

@@ -6,79 +6,46 @@ mod drawn;
 mod reader;
 mod show;
 
-use desk::Case;
-use reader::Line;
+use desk::{Case, ROOM_CELLS, ROOM_EVENTS, ROOM_WORDS};
 use std::io;
 use std::io::{BufWriter, Read, Write};
 
-const ROOM_TEXT: usize = 0x40000;
-
-const ROOM_WORDS: usize = 4097;
-
-const ROOM_CELLS: usize = 1025;
-
-const ROOM_EVENTS: usize = 8192;
+const ROOM_TEXT: u64 = 0x40000;
 
 fn main(rt: HostRuntime) -> io::Result<()> {
-    let mut out = BufWriter::new(rt.alloc(), io::writer(&rt))?;
-    let mut text = Vec::new(rt.alloc());
-    rt.reader().take(ROOM_TEXT as u64).read_to_end(&mut text)?;
-    on_desk(&mut out, &text)?;
+    let alloc = rt.alloc();
+    let mut out = BufWriter::new(alloc, io::writer(&rt))?;
+    let mut text = Vec::new(alloc);
+    rt.reader().take(ROOM_TEXT).read_to_end(&mut text)?;
+    let mut program = [0xFFFFu16; ROOM_WORDS];
+    let mut memory = [0u8; ROOM_CELLS];
+    let mut script = Vec::with_capacity(alloc, ROOM_EVENTS)?;
+    let mut case = Case::none();
+    for line in text.chunk_by(|before, _| *before != b'\n') {
+        case = worked(&mut out, case, line, &mut program, &mut memory, &mut script)?;
+    }
     out.flush()
 }
 
-// The cases of a text, on a desk with room for one word and one cell more than the chip has.
-fn on_desk(out: &mut impl Write, text: &[u8]) -> io::Result<()> {
-    let mut program = [0xFFFFu16; ROOM_WORDS];
-    let mut memory = [0u8; ROOM_CELLS];
-    let mut again = [0u8; ROOM_CELLS];
-    let mut script = [0u8; ROOM_EVENTS];
-    work(
-        out,
-        text,
-        &mut program,
-        &mut memory,
-        &mut again,
-        &mut script,
-    )
-}
-
-// Each byte of the text in turn.
-fn work(
-    out: &mut impl Write,
-    text: &[u8],
-    program: &mut [u16],
-    memory: &mut [u8],
-    again: &mut [u8],
-    script: &mut [u8],
-) -> io::Result<()> {
-    let mut case = desk::none();
-    let mut line = reader::start();
-    for byte in text {
-        let byte = *byte;
-        case = at_byte(out, case, line, byte, program, memory, again, script)?;
-        line = reader::next(line, byte);
-    }
-    Ok(())
-}
-
-// A title is written as it is read; any other line does what it says at its end.
-fn at_byte(
+// A title is written; any other line does what it says, where it has an end.
+fn worked(
     out: &mut impl Write,
     case: Case,
-    line: Line,
-    byte: u8,
-    program: &mut [u16],
-    memory: &mut [u8],
-    again: &mut [u8],
-    script: &mut [u8],
+    line: &[u8],
+    program: &mut [u16; ROOM_WORDS],
+    memory: &mut [u8; ROOM_CELLS],
+    script: &mut Vec<u8>,
 ) -> io::Result<Case> {
-    if reader::in_title(line, byte) {
-        show::byte(out, byte)?;
+    let line = reader::begun(line);
+    if line.starts_with(b"#") {
+        out.write_all(line)?;
         return Ok(case);
     }
-    if byte == b'\n' {
-        return desk::done(out, case, line, program, memory, again, script);
+    let Some(said) = line.strip_suffix(b"\n") else {
+        return Ok(case);
+    };
+    match reader::read(said) {
+        Some(order) => desk::done(out, case, order, program, memory, script),
+        None => Ok(case),
     }
-    Ok(case)
 }

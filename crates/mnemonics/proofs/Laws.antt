@@ -1,84 +1,52 @@
 -- The row, the kinds and the numbers that a word shows, by the tests that find them: computed over all rows and all words.
-use mathlib.Core.Path.{◌≡◌, ◌∙◌, refl}
+use mathlib.Core.Path.{◌≡◌, ◌∙◌, ap, refl, sym}
 use mathlib.Core.Bool.{Bool, true}
+use mathlib.Core.List.{List, map}
+use Rattle.std.specs.Prelude.{min}
+use Rattle.std.proofs.lemmas.List.{get_or_default}
 use Prim.Native.Nat.{ℕ, ◌+◌, ◌/◌, ◌%◌, ◌<◌, ◌≤◌}
 use native.Mathlib.Omega.{arith}
 use lib.Dec.{ltb, eqb}
-use lib.ListN.{length, get_or, get_or-eq_default}
-use borrow.Author.Tests.{le-ltb, ne_eqb, ltb-true, ltb-false, eqb-true}
+use lib.ListN.{length, get_or, get_or-eq_default, get_or-map, length-map}
+use borrow.Author.Tests.{lt-ltb, le-ltb, eq-eqb, ne_eqb, ltb-true, ltb-false, eqb-true}
 use Rattle.lent.specs.Lent.{pick, both}
 use Rattle.lent.proofs.Laws.{test, both_true, by_lt, by_choice}
 use Rattle.word.proofs.Every.{every, every_at}
 use Rattle.word.specs.Codes.{operation_of, immediate_of, condition_of}
 use Rattle.word.specs.Word.{decode_of, accumulator_of, transfer_of, control_of}
-use Rattle.mnemonics.specs.declared.Kind.{Kind}
 use Rattle.mnemonics.specs.declared.Shown.{Shown}
-use Rattle.mnemonics.specs.Mnemonics.{none, nibble, field_x, cell, near, far, data_row, table, row_of, shown_of, Fits}
-
--- two kinds are one
-abbrev same_kind : Kind → Kind → Bool
-same_kind a b = both (eqb a.digits b.digits) (eqb a.below b.below)
-
-same_kind_lem : (a b : Kind) → same_kind a b ≡ true → a ≡ b
-same_kind_lem a b e =
-    let t = both_true (eqb a.digits b.digits) (eqb a.below b.below) e in
-    rw (eqb-true a.digits b.digits t.0, eqb-true a.below b.below t.1)
-
-unfoldable pub first_by : ℕ → Kind
-first_by n =
-    pick (ltb n 16) cell
-    (pick (ltb n 24) field_x
-    (pick (ltb n 33) near
-    (pick (ltb n 35) field_x
-    (pick (eqb n 35) nibble
-    (pick (eqb n 39) far
-    none)))))
-
-unfoldable pub second_by : ℕ → Kind
-second_by n = pick (eqb (n / 8) 2) nibble (pick (eqb n 35) nibble none)
-
-all_kinds : every (λ n. both (same_kind (first_by n) (row_of n).first) (same_kind (second_by n) (row_of n).second)) 6 0 ≡ true
-unfolding every first_by second_by row_of table
-all_kinds = refl
-
-near_kinds : (n : ℕ) → n < 64 → (first_by n ≡ (row_of n).first) × (second_by n ≡ (row_of n).second)
-near_kinds n h =
-    let z : 0 + n ≡ n = omega arith in
-    let t =
-    both_true (same_kind (first_by n) (row_of n).first) (same_kind (second_by n) (row_of n).second)
-    (rw z at (every_at (λ n. both (same_kind (first_by n) (row_of n).first) (same_kind (second_by n) (row_of n).second)) 6 0 n all_kinds h)) in
-    (same_kind_lem (first_by n) (row_of n).first t.0, same_kind_lem (second_by n) (row_of n).second t.1)
+use Rattle.mnemonics.specs.Rows.{StandsAt}
+use Rattle.mnemonics.specs.Mnemonics.{Row, bound, data_row, table, row_of, shown_of, Fits}
 
 few_rows : length table ≡ 44
 unfolding table
 few_rows = refl
 
--- past the last row there is no operand
-far_kinds : (n : ℕ) → 64 ≤ n → (first_by n ≡ (row_of n).first) × (second_by n ≡ (row_of n).second)
-unfolding first_by second_by row_of
-far_kinds n h =
-    let k : length table ≤ n = omega (arith, few_rows) in
-    let e : get_or table n data_row ≡ data_row = get_or-eq_default table data_row k in
-    rw (
-      e,
-      le-ltb n 16 (omega arith),
-      le-ltb n 24 (omega arith),
-      le-ltb n 33 (omega arith),
-      le-ltb n 35 (omega arith),
-      ne_eqb n 35 (λ q. omega arith),
-      ne_eqb n 39 (λ q. omega arith),
-      ne_eqb (n / 8) 2 (λ q. omega arith),
-    )
-    (refl, refl)
+last : get_or table 43 data_row ≡ data_row
+unfolding table
+last = refl
 
-pub kinds_by : (n : ℕ) → (first_by n ≡ (row_of n).first) × (second_by n ≡ (row_of n).second)
-kinds_by n = test (ltb n 64) (λ t. near_kinds n (ltb-true n 64 t)) (λ t. far_kinds n (ltb-false n 64 t))
+-- past the last row stands what is in the last one
+last_row : (n : ℕ) → row_of (min n 43) ≡ row_of n
+unfolding row_of
+last_row n =
+    test (ltb n 44)
+    (λ e. ap (λ (k : ℕ). get_or table k data_row) (let h = ltb-true n 44 e in omega arith))
+    (λ e.
+    let h : length table ≤ n = omega (arith, few_rows, ltb-false n 44 e) in
+    let z : min n 43 ≡ 43 = omega (arith, ltb-false n 44 e) in
+    rw z (last ∙ sym (get_or-eq_default table data_row h)))
 
-pub first_by_lem : (n : ℕ) {r : Kind} → r ≡ first_by n → r ≡ (row_of n).first
-first_by_lem n e = e ∙ (kinds_by n).0
-
-pub second_by_lem : (n : ℕ) {r : Kind} → r ≡ second_by n → r ≡ (row_of n).second
-second_by_lem n e = e ∙ (kinds_by n).1
+-- What stands in the program's table stands in this one.
+pub row_part : {A C : Type 0} (f : A → C) (g : Row → C) (l : List A) (n : ℕ) {x : A} → StandsAt l n x → map f l ≡ map g table → f x ≡ g (row_of n)
+unfolding row_of StandsAt
+row_part f g l n {x} h m =
+    let i : ℕ = min n 43 in
+    let k : i < length table = omega (arith, few_rows) in
+    ap f h
+    ∙ (sym (get_or-map f l i x)
+    ∙ (ap (λ y. get_or y i (f x)) m
+    ∙ (get_or_default (map g table) i (f x) (g data_row) (omega (arith, length-map table g)) ∙ (get_or-map g table i data_row ∙ ap g (last_row n)))))
 
 -- What a word shows, by tests on the word.
 
@@ -86,17 +54,21 @@ unfoldable pub row_by : ℕ → ℕ
 row_by w =
     pick (ltb w 0x4000) (w / 1024)
     (pick (ltb w 0xC800) (w / 2048 + 8)
-    (pick (eqb (w / 4096) 14) 39
-    (pick (eqb (w / 128) 0x196) 33
-    (pick (eqb (w / 128) 0x19A) 34
-    (pick (eqb (w / 256) 0xD0) 35
+    (pick (ltb w 0xCB00) 43
+    (pick (ltb w 0xCB80) 33
+    (pick (ltb w 0xCD00) 43
+    (pick (ltb w 0xCD80) 34
+    (pick (ltb w 0xD000) 43
+    (pick (ltb w 0xD100) 35
     (pick (eqb w 0xD400) 36
     (pick (eqb w 0xD800) 37
     (pick (eqb w 0xDC00) 38
+    (pick (ltb w 0xE000) 43
+    (pick (ltb w 0xF000) 39
     (pick (eqb w 0xF000) 40
     (pick (eqb w 0xF7FF) 41
     (pick (eqb w 0xFFFF) 42
-    43)))))))))))
+    43)))))))))))))))
 
 unfoldable pub first_in : ℕ → ℕ → ℕ
 first_in w n =
@@ -109,7 +81,7 @@ first_in w n =
     0)))))
 
 unfoldable pub second_in : ℕ → ℕ → ℕ
-second_in w n = pick (eqb (n / 8) 2) (w / 128 % 16) (pick (eqb n 35) (w % 16) 0)
+second_in w n = pick (ltb n 16) 0 (pick (ltb n 24) (w / 128 % 16) (pick (eqb n 35) (w % 16) 0))
 
 -- the tests find what is shown
 abbrev tested : ℕ → Shown → Bool
@@ -124,20 +96,43 @@ row_small : (w : ℕ) → row_by w < 44
 unfolding row_by
 row_small w =
     let P : ℕ → Type 0 = λ n. n < 44 in
+    let z : P 43 = omega arith in
     by_lt P w 0x4000 _ _ (λ h. omega arith)
     (λ _. by_lt P w 0xC800 _ _ (λ h. omega arith)
-    (λ _. by_choice P (eqb (w / 4096) 14) 39 _ (omega arith)
-    (by_choice P (eqb (w / 128) 0x196) 33 _ (omega arith)
-    (by_choice P (eqb (w / 128) 0x19A) 34 _ (omega arith)
-    (by_choice P (eqb (w / 256) 0xD0) 35 _ (omega arith)
+    (λ _. by_choice P (ltb w 0xCB00) 43 _ z
+    (by_choice P (ltb w 0xCB80) 33 _ (omega arith)
+    (by_choice P (ltb w 0xCD00) 43 _ z
+    (by_choice P (ltb w 0xCD80) 34 _ (omega arith)
+    (by_choice P (ltb w 0xD000) 43 _ z
+    (by_choice P (ltb w 0xD100) 35 _ (omega arith)
     (by_choice P (eqb w 0xD400) 36 _ (omega arith)
     (by_choice P (eqb w 0xD800) 37 _ (omega arith)
     (by_choice P (eqb w 0xDC00) 38 _ (omega arith)
+    (by_choice P (ltb w 0xE000) 43 _ z
+    (by_choice P (ltb w 0xF000) 39 _ (omega arith)
     (by_choice P (eqb w 0xF000) 40 _ (omega arith)
-    (by_choice P (eqb w 0xF7FF) 41 _ (omega arith) (by_choice P (eqb w 0xFFFF) 42 43 (omega arith) (omega arith))))))))))))
+    (by_choice P (eqb w 0xF7FF) 41 _ (omega arith) (by_choice P (eqb w 0xFFFF) 42 43 (omega arith) z)))))))))))))))
 
-first_small : (w n : ℕ) → first_in w n < (first_by n).below
-unfolding first_in first_by
+first_below : ℕ → ℕ
+first_below n = pick (ltb n 16) 1024 (pick (ltb n 24) 128 (pick (ltb n 33) 2048 (pick (ltb n 35) 128 (pick (eqb n 35) 16 (pick (eqb n 39) 4096 1)))))
+
+second_below : ℕ → ℕ
+second_below n = pick (ltb n 16) 1 (pick (ltb n 24) 16 (pick (eqb n 35) 16 1))
+
+all_bounds : every (λ n. both (eqb (first_below n) (bound (row_of n).first)) (eqb (second_below n) (bound (row_of n).second))) 6 0 ≡ true
+unfolding every first_below second_below row_of table
+all_bounds = refl
+
+bounds : (n : ℕ) → n < 44 → (first_below n ≡ bound (row_of n).first) × (second_below n ≡ bound (row_of n).second)
+bounds n h =
+    let z : 0 + n ≡ n = omega arith in
+    let x = eqb (first_below n) (bound (row_of n).first) in
+    let y = eqb (second_below n) (bound (row_of n).second) in
+    let t = both_true x y (rw z at (every_at (λ n. both (eqb (first_below n) (bound (row_of n).first)) (eqb (second_below n) (bound (row_of n).second))) 6 0 n all_bounds (omega arith))) in
+    (eqb-true (first_below n) (bound (row_of n).first) t.0, eqb-true (second_below n) (bound (row_of n).second) t.1)
+
+first_small : (w n : ℕ) → first_in w n < first_below n
+unfolding first_in first_below
 first_small w n =
     test (ltb n 16) (λ e. rw e (omega arith))
     (λ a. rw a
@@ -150,9 +145,13 @@ first_small w n =
     (test (eqb n 35) (λ e. rw e (omega arith))
     (λ f. rw f (test (eqb n 39) (λ e. rw e (omega arith)) (λ e. rw e (omega arith))))))))))))
 
-second_small : (w n : ℕ) → second_in w n < (second_by n).below
-unfolding second_in second_by
-second_small w n = test (eqb (n / 8) 2) (λ e. rw e (omega arith)) (λ e. rw e (test (eqb n 35) (λ e. rw e (omega arith)) (λ e. rw e (omega arith))))
+second_small : (w n : ℕ) → second_in w n < second_below n
+unfolding second_in second_below
+second_small w n =
+    test (ltb n 16) (λ e. rw e (omega arith))
+    (λ a. rw a
+    (test (ltb n 24) (λ e. rw e (omega arith))
+    (λ b. rw b (test (eqb n 35) (λ e. rw e (omega arith)) (λ e. rw e (omega arith))))))
 
 module _ (w : ℕ) (h : w < 65536) where
   found : (row_by w ≡ (shown_of (decode_of w)).row) × ((first_in w (shown_of (decode_of w)).row ≡ (shown_of (decode_of w)).first) × (second_in w (shown_of (decode_of w)).row ≡ (shown_of (decode_of w)).second))
@@ -179,12 +178,19 @@ module _ (w : ℕ) (h : w < 65536) where
   pub word_fits : Fits (shown_of (decode_of w))
   word_fits =
       let s = shown_of (decode_of w) in
-      let k = kinds_by s.row in
+      let m : s.row < 44 = rw (← found.0) (row_small w) in
+      let k = bounds s.row m in
       record {
-        row = rw (← found.0) (row_small w);
+        row = m;
         first = rw (← k.0, ← found.1.0) (first_small w s.row);
         second = rw (← k.1, ← found.1.1) (second_small w s.row);
       }
+
+pub ruleset row_tests = (lt-ltb, le-ltb, eq-eqb, ne_eqb, row_by_lem)
+
+pub ruleset first_tests = (lt-ltb, le-ltb, eq-eqb, ne_eqb, first_in_lem)
+
+pub ruleset second_tests = (lt-ltb, le-ltb, eq-eqb, ne_eqb, second_in_lem)
 
 pub shown_is : (s : Shown) {n f g : ℕ} → n ≡ s.row → f ≡ s.first → g ≡ s.second → record { row = n; first = f; second = g } ≡ s
 shown_is s p q r = rw (p, q, r)

@@ -1,2 +1,2 @@
 pub mod Mnemonics
-pub mod Names
+pub mod Rows

@@ -1,11 +1,12 @@
 -- The mnemonics of 003, section 17, in one table, each with the kinds of its operands in the sheet's order (02, P3), and what each word shows on paper.
-use Rattle.std.specs.Prelude.{ℕ, ◌+◌, ◌*◌, ◌^◌, ◌<◌, ◌≤◌, List, [], ◌∷◌, get_or}
-use Rattle.word.specs.declared.Decoded.{Decoded}
+use Rattle.std.specs.Prelude.{ℕ, ◌+◌, ◌*◌, ◌^◌, ◌<◌, ◌≤◌, List, [], ◌∷◌, get_or, ltb, Err, None, Ok, Option, Result, Some}
+use Rattle.lent.specs.Lent.{pick}
 use Rattle.word.specs.declared.Instruction.{Instruction}
 use Rattle.word.specs.declared.Instruction.TheVariants.{Accumulator, Memory, Lda, Sta, Immediate, Ldi, Branch, Call, Daa, Das, Rtnw, Rtni, Halt, Stop, Jmp, Shr, Tjmp, Nop}
 use Rattle.word.specs.Codes.{operation_code, immediate_code, condition_code}
 use Rattle.mnemonics.specs.declared.Kind.{Kind}
 use Rattle.mnemonics.specs.declared.Shown.{Shown}
+use Rattle.refusal.specs.declared.Refusal.{Refusal}
 
 -- A kind of operand: how many digits it has, and below which number it is (02, P3: "addresses three digits, bank included; others one").
 abbrev pub kind : ℕ → ℕ → Kind
@@ -15,9 +16,6 @@ kind d b = record { digits = d; below = b }
 pub record Fair (k : Kind) : Type 0 where
   pub few : k.digits < 4
   pub fits : k.below ≤ 16 ^ k.digits
-
-abbrev pub none : Kind  -- no operand: no digits
-none = kind 0 1
 
 abbrev pub nibble : Kind  -- I, H and L
 nibble = kind 1 16
@@ -34,13 +32,13 @@ near = kind 3 2048
 abbrev pub far : Kind  -- a target of twelve bits
 far = kind 3 4096
 
--- A row of the table: a mnemonic's letters, and its first and its second operand.
+-- A row of the table: a mnemonic's letters, and its first and its second operand, if it has one.
 pub record Row : Type 0 where
   pub name : List ℕ
-  pub first : Kind
-  pub second : Kind
+  pub first : Option Kind
+  pub second : Option Kind
 
-abbrev pub row : List ℕ → Kind → Kind → Row
+abbrev pub row : List ℕ → Option Kind → Option Kind → Row
 row n f s = record { name = n; first = f; second = s }
 
 -- the letters and digits of mnemonics, in ASCII
@@ -115,54 +113,54 @@ Z = 90
 
 -- the mark of a word that is not listed ("an unlisted word has only the mark DATA there")
 abbrev pub data_row : Row
-data_row = row (D ∷ A ∷ T ∷ A ∷ []) none none
+data_row = row (D ∷ A ∷ T ∷ A ∷ []) None None
 
 -- THE TABLE, by code: 0-6 without and with the memory, 7, 8-15, 16-24, then what is listed of 25-31, and the mark DATA
 unfoldable pub table : List Row
 table =
-    row (A ∷ D ∷ C ∷ []) cell none
-    ∷ row (A ∷ D ∷ C ∷ M ∷ []) cell none
-    ∷ row (A ∷ D ∷ D ∷ []) cell none
-    ∷ row (A ∷ D ∷ D ∷ M ∷ []) cell none
-    ∷ row (S ∷ B ∷ C ∷ []) cell none
-    ∷ row (S ∷ B ∷ C ∷ M ∷ []) cell none
-    ∷ row (S ∷ U ∷ B ∷ []) cell none
-    ∷ row (S ∷ U ∷ B ∷ M ∷ []) cell none
-    ∷ row (E ∷ O ∷ R ∷ []) cell none
-    ∷ row (E ∷ O ∷ R ∷ M ∷ []) cell none
-    ∷ row (O ∷ R ∷ []) cell none
-    ∷ row (O ∷ R ∷ M ∷ []) cell none
-    ∷ row (A ∷ N ∷ D ∷ []) cell none
-    ∷ row (A ∷ N ∷ D ∷ M ∷ []) cell none
-    ∷ row (L ∷ D ∷ A ∷ []) cell none
-    ∷ row (S ∷ T ∷ A ∷ []) cell none
-    ∷ row (A ∷ D ∷ I ∷ []) field_x nibble
-    ∷ row (A ∷ D ∷ I ∷ M ∷ []) field_x nibble
-    ∷ row (S ∷ B ∷ I ∷ []) field_x nibble
-    ∷ row (S ∷ B ∷ I ∷ M ∷ []) field_x nibble
-    ∷ row (E ∷ O ∷ R ∷ I ∷ M ∷ []) field_x nibble
-    ∷ row (O ∷ R ∷ I ∷ M ∷ []) field_x nibble
-    ∷ row (A ∷ N ∷ D ∷ I ∷ M ∷ []) field_x nibble
-    ∷ row (L ∷ D ∷ I ∷ []) field_x nibble
-    ∷ row (B ∷ N ∷ Z ∷ []) near none
-    ∷ row (B ∷ N ∷ C ∷ []) near none
-    ∷ row (B ∷ A ∷ Z ∷ []) near none
-    ∷ row (B ∷ C ∷ []) near none
-    ∷ row (B ∷ A ∷ D0 ∷ []) near none
-    ∷ row (B ∷ A ∷ D1 ∷ []) near none
-    ∷ row (B ∷ A ∷ D2 ∷ []) near none
-    ∷ row (B ∷ A ∷ D3 ∷ []) near none
-    ∷ row (C ∷ A ∷ L ∷ L ∷ []) near none
-    ∷ row (D ∷ A ∷ A ∷ []) field_x none
-    ∷ row (D ∷ A ∷ S ∷ []) field_x none
-    ∷ row (R ∷ T ∷ N ∷ W ∷ []) nibble nibble
-    ∷ row (R ∷ T ∷ N ∷ I ∷ []) none none
-    ∷ row (H ∷ A ∷ L ∷ T ∷ []) none none
-    ∷ row (S ∷ T ∷ O ∷ P ∷ []) none none
-    ∷ row (J ∷ M ∷ P ∷ []) far none
-    ∷ row (S ∷ H ∷ R ∷ []) none none
-    ∷ row (T ∷ J ∷ M ∷ P ∷ []) none none
-    ∷ row (N ∷ O ∷ P ∷ []) none none
+    row (A ∷ D ∷ C ∷ []) (Some cell) None
+    ∷ row (A ∷ D ∷ C ∷ M ∷ []) (Some cell) None
+    ∷ row (A ∷ D ∷ D ∷ []) (Some cell) None
+    ∷ row (A ∷ D ∷ D ∷ M ∷ []) (Some cell) None
+    ∷ row (S ∷ B ∷ C ∷ []) (Some cell) None
+    ∷ row (S ∷ B ∷ C ∷ M ∷ []) (Some cell) None
+    ∷ row (S ∷ U ∷ B ∷ []) (Some cell) None
+    ∷ row (S ∷ U ∷ B ∷ M ∷ []) (Some cell) None
+    ∷ row (E ∷ O ∷ R ∷ []) (Some cell) None
+    ∷ row (E ∷ O ∷ R ∷ M ∷ []) (Some cell) None
+    ∷ row (O ∷ R ∷ []) (Some cell) None
+    ∷ row (O ∷ R ∷ M ∷ []) (Some cell) None
+    ∷ row (A ∷ N ∷ D ∷ []) (Some cell) None
+    ∷ row (A ∷ N ∷ D ∷ M ∷ []) (Some cell) None
+    ∷ row (L ∷ D ∷ A ∷ []) (Some cell) None
+    ∷ row (S ∷ T ∷ A ∷ []) (Some cell) None
+    ∷ row (A ∷ D ∷ I ∷ []) (Some field_x) (Some nibble)
+    ∷ row (A ∷ D ∷ I ∷ M ∷ []) (Some field_x) (Some nibble)
+    ∷ row (S ∷ B ∷ I ∷ []) (Some field_x) (Some nibble)
+    ∷ row (S ∷ B ∷ I ∷ M ∷ []) (Some field_x) (Some nibble)
+    ∷ row (E ∷ O ∷ R ∷ I ∷ M ∷ []) (Some field_x) (Some nibble)
+    ∷ row (O ∷ R ∷ I ∷ M ∷ []) (Some field_x) (Some nibble)
+    ∷ row (A ∷ N ∷ D ∷ I ∷ M ∷ []) (Some field_x) (Some nibble)
+    ∷ row (L ∷ D ∷ I ∷ []) (Some field_x) (Some nibble)
+    ∷ row (B ∷ N ∷ Z ∷ []) (Some near) None
+    ∷ row (B ∷ N ∷ C ∷ []) (Some near) None
+    ∷ row (B ∷ A ∷ Z ∷ []) (Some near) None
+    ∷ row (B ∷ C ∷ []) (Some near) None
+    ∷ row (B ∷ A ∷ D0 ∷ []) (Some near) None
+    ∷ row (B ∷ A ∷ D1 ∷ []) (Some near) None
+    ∷ row (B ∷ A ∷ D2 ∷ []) (Some near) None
+    ∷ row (B ∷ A ∷ D3 ∷ []) (Some near) None
+    ∷ row (C ∷ A ∷ L ∷ L ∷ []) (Some near) None
+    ∷ row (D ∷ A ∷ A ∷ []) (Some field_x) None
+    ∷ row (D ∷ A ∷ S ∷ []) (Some field_x) None
+    ∷ row (R ∷ T ∷ N ∷ W ∷ []) (Some nibble) (Some nibble)
+    ∷ row (R ∷ T ∷ N ∷ I ∷ []) None None
+    ∷ row (H ∷ A ∷ L ∷ T ∷ []) None None
+    ∷ row (S ∷ T ∷ O ∷ P ∷ []) None None
+    ∷ row (J ∷ M ∷ P ∷ []) (Some far) None
+    ∷ row (S ∷ H ∷ R ∷ []) None None
+    ∷ row (T ∷ J ∷ M ∷ P ∷ []) None None
+    ∷ row (N ∷ O ∷ P ∷ []) None None
     ∷ data_row
     ∷ []
 
@@ -194,12 +192,21 @@ instruction_shown Tjmp = shown 41 0 0
 instruction_shown Nop = shown 42 0 0
 
 -- what the reading of a word shows
-unfoldable pub shown_of : Decoded → Shown
-shown_of (Decoded.Listed i) = instruction_shown i
-shown_of (Decoded.Refused why) = shown 43 0 0
+unfoldable pub shown_of : Result Instruction Refusal → Shown
+shown_of (Ok i) = instruction_shown i
+shown_of (Err why) = shown 43 0 0
+
+-- below which number an operand is: where there is none, it is 0
+abbrev pub bound : Option Kind → ℕ
+bound None = 1
+bound (Some k) = k.below
+
+-- a row's mnemonic; past the last row there is none
+unfoldable pub name_of : ℕ → List ℕ
+name_of n = pick (ltb n 44) (row_of n).name []
 
 -- a row of the table, with numbers that its operands may be
 pub record Fits (s : Shown) : Type 0 where
   pub row : s.row < 44
-  pub first : s.first < (row_of s.row).first.below
-  pub second : s.second < (row_of s.row).second.below
+  pub first : s.first < bound (row_of s.row).first
+  pub second : s.second < bound (row_of s.row).second

@@ -1,4 +1,5 @@
 -- Every row of the table holds: an instruction on a machine of which its row's facts hold comes down to the arithmetic on the row's numbers, and that is computed.
+use Rattle.std.specs.Prelude.{Ok}
 use mathlib.Core.Path.{◌≡◌, ◌∙◌, refl, ap}
 use mathlib.Core.Bool.{true}
 use mathlib.Core.List.{List, [], ◌∷◌, ◌++◌}
@@ -17,7 +18,6 @@ use Rattle.word.specs.Word.{decode_of, transfer_of, control_of, encode_of, decod
 use Rattle.refusal.specs.Told.{refused_told}
 use Rattle.alu.specs.declared.Sum.{Sum}
 use Rattle.alu.specs.Alu.{sum_of, calculated_of, decimal_added_of, decimal_subtracted_of}
-use Rattle.sh_rules.specs.declared.judge.Judged.TheVariants.{Fine}
 use Rattle.sh_rules.specs.Judge.{first_of, state_judged}
 use Rattle.sh_map.specs.Map.{kind_of, register_bits, held_in, held_of, askable_in, askable_of}
 use Rattle.sh_state.specs.Record.{set_pc, set_ac, set_cy}
@@ -83,7 +83,7 @@ module _ (pc ac cy v : ℕ) (h : (pc < 4096) × (ac < 16) × (cy < 2) × (v < 16
   pointing_fit : Fit (state (arrived pc ac cy) (pointing 0x20 v))
   pointing_fit = fit_of _ (arrived_well pc ac cy 0x20 v h.0 h.1 h.2 h.3 data_cell)
 
-  well : state_judged before ≡ Fine
+  well : state_judged before ≡ Ok tt
   unfolding before held_of held_in kind_of register_bits
   well = judged_of (store_keeps pointing_fit 0x0E 5 (omega arith) refl)
 

@@ -1,17 +1,13 @@
 -- What a row of the table says, by the chip's own definitions.
-use Rattle.std.specs.Prelude.{◌≡◌, List, [], ◌∷◌, ℕ, ℤ, replicate, set}
+use Rattle.std.specs.Prelude.{◌≡◌, List, [], ◌∷◌, ℕ, ℤ, replicate, set, Ok}
 use Rattle.lent.specs.Lent.{at}
 use Rattle.refusal.specs.Told.{said}
 use Rattle.word.specs.declared.Instruction.{Instruction}
-use Rattle.word.specs.declared.Decoded.{Decoded}
-use Rattle.word.specs.declared.Encoded.{Encoded}
 use Rattle.word.specs.Word.{decode_of, encode_of, decoded_told}
-use Rattle.sh_rules.specs.declared.judge.Judged.TheVariants.{Fine}
 use Rattle.sh_rules.specs.Judge.{memory_judged, state_judged}
 use Rattle.sh_state.specs.State.{State}
 use Rattle.sh_execute.specs.Execute.{execute_of}
 use Rattle.body.specs.Body.{high_cell, low_cell, ground_code, level_judged}
-use Rattle.level.specs.declared.Levelled.{Levelled}
 use Rattle.level.specs.Level.{level_of}
 use Rattle.writers.specs.List.{writers_of}
 
@@ -59,13 +55,13 @@ All P (x ∷ l) = P x × All P l
 
 -- a well-formed machine of which some facts hold
 pub record Given (facts : List Fact) (s : State) : Type 0 where
-  pub well_formed : state_judged s ≡ Fine
+  pub well_formed : state_judged s ≡ Ok tt
   pub said : All (Is s) facts
 
 -- a good memory and a good level body with the digits and the ground
 pub record Digits (high low ground_stop : ℕ) (memory body : List ℕ) : Type 0 where
-  pub good_memory : memory_judged memory ≡ Fine
-  pub good_body : level_judged body ≡ Fine
+  pub good_memory : memory_judged memory ≡ Ok tt
+  pub good_body : level_judged body ≡ Ok tt
   pub high_digit : at memory (high_cell body) ≡ high
   pub low_digit : at memory (low_cell body) ≡ low
   pub its_ground : ground_code body ≡ ground_stop
@@ -79,11 +75,11 @@ abbrev pub Holds : Row → Type 0
 Holds (Executed i before after) =
     ((s : State) → Given before s → All (Is (execute_of s i)) after) × ((s : State) × Given before s)
 -- both ways
-Holds (Names w i) = (decode_of w ≡ Decoded.Listed i) × (encode_of i ≡ Encoded.Word w)
+Holds (Names w i) = (decode_of w ≡ Ok i) × (encode_of i ≡ Ok w)
 -- 6, with the word
 Holds (Unlisted w) = decoded_told (decode_of w) ≡ said 6 w
 -- of every such memory and body, and there are some
 Holds (Level high low ground_stop z) =
-    ((memory body : List ℕ) → Digits high low ground_stop memory body → level_of memory body ≡ Levelled.Level z)
+    ((memory body : List ℕ) → Digits high low ground_stop memory body → level_of memory body ≡ Ok z)
     × ((memory : List ℕ) × ((body : List ℕ) × Digits high low ground_stop memory body))
 Holds (Writers words c l) = writers_of (nop_but words) c ≡ l

@@ -2,12 +2,10 @@
 // code answers.
 #![tactic(auto)]
 
-use level::Levelled;
 use sh_state::machine::Machine;
 use std::io;
 use std::io::{BufWriter, Write};
-use word::{Decoded, Encoded, ImmediateOperation, Instruction, Operation};
-use writers::Listed;
+use word::{ImmediateOperation, Instruction, Operation};
 
 const NOP: u16 = 0xFFFF;
 
@@ -36,96 +34,122 @@ fn main(rt: HostRuntime) -> io::Result<()> {
 }
 
 fn sums(out: &mut impl Write) -> io::Result<()> {
-    result(
-        out,
-        b"1. ADC, cell 9, AC 8, CY 1: AC ",
-        Instruction::Accumulator(Operation::Adc, CELL),
-        8,
-        1,
+    let adc = Instruction::Accumulator(Operation::Adc, CELL);
+    let sub = Instruction::Accumulator(Operation::Sub, CELL);
+    let first = executed(
+        adc,
+        Machine {
+            ac: 8,
+            cy: 1,
+            ..Machine::fresh(0)
+        },
         9,
-    )?;
-    result(
-        out,
-        b"2. SUB, cell 3, AC 5: AC ",
-        Instruction::Accumulator(Operation::Sub, CELL),
-        5,
         0,
+    );
+    writeln!(
+        out,
+        "1. ADC, cell 9, AC 8, CY 1: AC {}, CY {}.",
+        first.ac, first.cy
+    )?;
+    let second = executed(
+        sub,
+        Machine {
+            ac: 5,
+            ..Machine::fresh(0)
+        },
         3,
-    )?;
-    result(
+        0,
+    );
+    writeln!(
         out,
-        b"3. SUB, 5 and 5: AC ",
-        Instruction::Accumulator(Operation::Sub, CELL),
+        "2. SUB, cell 3, AC 5: AC {}, CY {}.",
+        second.ac, second.cy
+    )?;
+    let third = executed(
+        sub,
+        Machine {
+            ac: 5,
+            ..Machine::fresh(0)
+        },
         5,
         0,
-        5,
-    )
+    );
+    writeln!(out, "3. SUB, 5 and 5: AC {}, CY {}.", third.ac, third.cy)
 }
 
 fn stored(out: &mut impl Write) -> io::Result<()> {
     let sbim = executed(
         Instruction::Immediate(ImmediateOperation::Sbim, CELL, 0),
-        0,
-        0,
-        0,
+        Machine::fresh(0),
         7,
         0,
     );
-    said(out, b"4. SBIM 0 on 7: cell ", sbim.cell, sbim.cy)?;
-    result(
-        out,
-        b"5. DAA, cell 12, CY 0: ",
-        Instruction::Daa(CELL),
-        0,
-        0,
-        12,
-    )?;
-    result(
-        out,
-        b"6. DAS, cell 14, CY 0: ",
-        Instruction::Das(CELL),
-        0,
-        0,
-        14,
-    )
+    writeln!(out, "4. SBIM 0 on 7: cell {}, CY {}.", sbim.cell, sbim.cy)?;
+    let daa = executed(Instruction::Daa(CELL), Machine::fresh(0), 12, 0);
+    writeln!(out, "5. DAA, cell 12, CY 0: {}, CY {}.", daa.ac, daa.cy)?;
+    let das = executed(Instruction::Das(CELL), Machine::fresh(0), 14, 0);
+    writeln!(out, "6. DAS, cell 14, CY 0: {}, CY {}.", das.ac, das.cy)
 }
 
 fn addresses(out: &mut impl Write) -> io::Result<()> {
-    address(out, b"7. After $7FF comes $", Instruction::Nop, 0x7FF, 0, 0)?;
-    address(out, b"; after $FFF, $", Instruction::Nop, 0xFFF, 0, 0)?;
-    address(
+    let low = executed(
+        Instruction::Nop,
+        Machine {
+            pc: 0x7FF,
+            ..Machine::fresh(0)
+        },
+        0,
+        0,
+    );
+    let high = executed(
+        Instruction::Nop,
+        Machine {
+            pc: 0xFFF,
+            ..Machine::fresh(0)
+        },
+        0,
+        0,
+    );
+    writeln!(
         out,
-        b".\n8. TJMP at $A34, TBR 5, AC 6: $",
-        Instruction::Tjmp,
-        0xA34,
-        6,
-        5,
+        "7. After $7FF comes ${:03X}; after $FFF, ${:03X}.",
+        low.pc, high.pc
     )?;
-    text(out, b".\n")
+    let tjmp = executed(
+        Instruction::Tjmp,
+        Machine {
+            pc: 0xA34,
+            ac: 6,
+            ..Machine::fresh(0)
+        },
+        0,
+        5,
+    );
+    writeln!(out, "8. TJMP at $A34, TBR 5, AC 6: ${:03X}.", tjmp.pc)
 }
 
 fn words(out: &mut impl Write) -> io::Result<()> {
-    text(out, b"9. $CB7F is ")?;
+    write!(out, "9. $CB7F is ")?;
     read(out, 0xCB7F)?;
-    text(out, b"; $CB80 is ")?;
+    write!(out, "; $CB80 is ")?;
     read(out, 0xCB80)?;
-    text(out, b".\n10. RTNW 4,2 is $")?;
+    write!(out, ".\n10. RTNW 4,2 is ")?;
     written(out, Instruction::Rtnw(4, 2))?;
-    text(out, b".\n")
+    writeln!(out, ".")
 }
 
 fn levels(out: &mut impl Write) -> io::Result<()> {
-    text(out, b"11. Digits 1,0 with ground 2: level ")?;
+    write!(out, "11. Digits 1,0 with ground 2: level ")?;
     level_of(out, 1, 0, 2)?;
-    text(out, b"; digits 0,1: ")?;
+    write!(out, "; digits 0,1: ")?;
     level_of(out, 0, 1, 2)?;
-    text(out, b".\n")
+    writeln!(out, ".")
 }
 
 fn writers(out: &mut impl Write) -> io::Result<()> {
-    text(
+    write!(
         out,
-        b"12. All NOP but $010 = $4820 (ADIM $20,0), $011 = $48A0 (ADIM $20,1), $012 = $3C0F (STA $0F), $013 = $3CA0 (STA $0A0), $014 = $77A0 (ANDIM $20,15): writers of $020 are ",
+        "12. All NOP but $010 = $4820 (ADIM $20,0), $011 = $48A0 (ADIM $20,1), $012 = $3C0F (STA $0F), $013 = $3CA0 (STA $0A0), $014 = $77A0 (ANDIM $20,15): writers of $020 are "
     )?;
     let mut program = [NOP; Machine::WORDS];
     program[0x010] = 0x4820;
@@ -134,42 +158,15 @@ fn writers(out: &mut impl Write) -> io::Result<()> {
     program[0x013] = 0x3CA0;
     program[0x014] = 0x77A0;
     list(out, &program)?;
-    text(out, b".\n")
+    writeln!(out, ".")
 }
 
-// AC and CY after an instruction.
-fn result(
-    out: &mut impl Write,
-    before: &[u8],
-    i: Instruction,
-    ac: u8,
-    cy: u8,
-    cell: u8,
-) -> io::Result<()> {
-    let a = executed(i, 0, ac, cy, cell, 0);
-    said(out, before, a.ac, a.cy)
-}
-
-// PC after an instruction.
-fn address(
-    out: &mut impl Write,
-    before: &[u8],
-    i: Instruction,
-    pc: u16,
-    ac: u8,
-    tbr: u8,
-) -> io::Result<()> {
-    let a = executed(i, pc, ac, 0, 0, tbr);
-    text(out, before)?;
-    hexadecimal_3(out, a.pc)
-}
-
-// An instruction on a fresh machine with PC, AC, CY, the cell and TBR put in.
-fn executed(i: Instruction, pc: u16, ac: u8, cy: u8, cell: u8, tbr: u8) -> After {
+// An instruction on a machine, with the cell and TBR put in.
+fn executed(i: Instruction, m: Machine, cell: u8, tbr: u8) -> After {
     let mut memory = [0; Machine::CELLS];
-    lent::poke(&mut memory, CELL as usize, cell);
-    lent::poke(&mut memory, TBR, tbr);
-    left(i, arrived(Machine::fresh(0), pc, ac, cy), &mut memory)
+    memory[CELL as usize] = cell;
+    memory[TBR] = tbr;
+    left(i, m, &mut memory)
 }
 
 fn left(i: Instruction, m: Machine, memory: &mut [u8]) -> After {
@@ -183,35 +180,20 @@ fn left(i: Instruction, m: Machine, memory: &mut [u8]) -> After {
     }
 }
 
-fn arrived(m: Machine, pc: u16, ac: u8, cy: u8) -> Machine {
-    let mut n = m;
-    n.pc = pc;
-    n.ac = ac;
-    n.cy = cy;
-    n
-}
-
 // What a word is read as.
 fn read(out: &mut impl Write, w: u16) -> io::Result<()> {
     match word::decode(w) {
-        Decoded::Listed(i) => daa(out, i),
-        Decoded::Refused(_) => text(out, b"unlisted"),
+        Ok(Instruction::Daa(x)) => write!(out, "DAA ${x:02X}"),
+        Ok(_) => write!(out, "no DAA"),
+        Err(_) => write!(out, "unlisted"),
     }
-}
-
-fn daa(out: &mut impl Write, i: Instruction) -> io::Result<()> {
-    let Instruction::Daa(x) = i else {
-        return text(out, b"no DAA");
-    };
-    text(out, b"DAA $")?;
-    hexadecimal_2(out, x)
 }
 
 // What an instruction is written as.
 fn written(out: &mut impl Write, i: Instruction) -> io::Result<()> {
     match word::encode(i) {
-        Encoded::Word(w) => hexadecimal_4(out, w),
-        Encoded::Refused(_) => text(out, b"refused"),
+        Ok(w) => write!(out, "${w:04X}"),
+        Err(_) => write!(out, "refused"),
     }
 }
 
@@ -221,90 +203,18 @@ fn level_of(out: &mut impl Write, high: u8, low: u8, ground: u8) -> io::Result<(
     cells[0x020] = high;
     cells[0x021] = low;
     let body = [0x00, 0x20, 0x00, 0x21, ground];
-    levelled(out, level::level(&cells, &body))
-}
-
-fn levelled(out: &mut impl Write, l: Levelled) -> io::Result<()> {
-    match l {
-        Levelled::Level(z) => signed(out, z),
-        Levelled::Refused(_) => text(out, b"refused"),
+    match level::level(&cells, &body) {
+        Ok(z) => write!(out, "{z}"),
+        Err(_) => write!(out, "refused"),
     }
-}
-
-// A level from -63 to 63.
-fn signed(out: &mut impl Write, z: i32) -> io::Result<()> {
-    for k in 0..64u8 {
-        if z == k as i32 {
-            return decimal(out, k);
-        }
-        if z == minus(k) {
-            return negative(out, k);
-        }
-    }
-    Ok(())
-}
-
-fn minus(k: u8) -> i32 {
-    0 - k as i32
-}
-
-fn negative(out: &mut impl Write, k: u8) -> io::Result<()> {
-    text(out, b"-")?;
-    decimal(out, k)
 }
 
 // The writers of $020, where they are two.
 fn list(out: &mut impl Write, program: &[u16]) -> io::Result<()> {
     let mut room = [0; Machine::WORDS];
     match writers::list(program, CELL as u32, &mut room) {
-        Listed::Count(n) => two(out, &room, n),
-        Listed::Refused(_) => text(out, b"refused"),
+        Ok(2) => write!(out, "${:03X}, ${:03X}", room[0], room[1]),
+        Ok(_) => write!(out, "not two"),
+        Err(_) => write!(out, "refused"),
     }
-}
-
-fn two(out: &mut impl Write, room: &[u16], n: usize) -> io::Result<()> {
-    if n != 2 {
-        return text(out, b"not two");
-    }
-    text(out, b"$")?;
-    hexadecimal_3(out, lent::fetch(room, 0))?;
-    text(out, b", $")?;
-    hexadecimal_3(out, lent::fetch(room, 1))
-}
-
-fn text(out: &mut impl Write, s: &[u8]) -> io::Result<()> {
-    out.write_all(s)
-}
-
-fn decimal(out: &mut impl Write, n: u8) -> io::Result<()> {
-    write!(out, "{}", n as u64)
-}
-
-// A value and CY.
-fn said(out: &mut impl Write, before: &[u8], v: u8, cy: u8) -> io::Result<()> {
-    text(out, before)?;
-    decimal(out, v)?;
-    text(out, b", CY ")?;
-    decimal(out, cy)?;
-    text(out, b".\n")
-}
-
-fn hexadecimal_4(out: &mut impl Write, n: u16) -> io::Result<()> {
-    hexadecimal_2(out, n / 256)?;
-    hexadecimal_2(out, n)
-}
-
-fn hexadecimal_3(out: &mut impl Write, n: u16) -> io::Result<()> {
-    hexadecimal_1(out, n / 256)?;
-    hexadecimal_2(out, n)
-}
-
-fn hexadecimal_2(out: &mut impl Write, n: u16) -> io::Result<()> {
-    hexadecimal_1(out, n / 16)?;
-    hexadecimal_1(out, n)
-}
-
-// The last digit.
-fn hexadecimal_1(out: &mut impl Write, n: u16) -> io::Result<()> {
-    text(out, &[lent::peek(b"0123456789ABCDEF", (n % 16) as usize)])
 }

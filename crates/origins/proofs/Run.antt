@@ -1,4 +1,5 @@
 -- A run: where it leaves a cell with another value, a cycle of its script wrote that value.
+use Rattle.std.specs.Prelude.{Ok}
 use mathlib.Core.Path.{◌≡◌, ◌∙◌, refl, sym, ap, subst}
 use mathlib.Core.Bool.{true}
 use mathlib.Core.List.{List, [], ◌∷◌}
@@ -11,7 +12,6 @@ use Rattle.lent.specs.Lent.{at}
 use Rattle.lent.proofs.Laws.{test, by_test, by_choice}
 use Rattle.sh_map.specs.Map.{askable_of}
 use Rattle.sh_state.specs.State.{State}
-use Rattle.sh_rules.specs.declared.judge.Judged.TheVariants.{Fine}
 use Rattle.sh_rules.specs.Judge.{state_judged}
 use Rattle.sh_events.specs.Event.{event_of}
 use Rattle.sh_events.proofs.Stuck.{event_stuck}
@@ -42,7 +42,7 @@ record From (p script : List ℕ) (s : State) (n c : ℕ) (r : Ran) : Type 0 whe
 
 module _ (p : List ℕ) (size : length p ≡ 4096) (c : ℕ) (h : askable_of c ≡ true) where
   -- the first event wrote it, and what was done after it left the cell
-  here : (s : State) (e : ℕ) (script : List ℕ) (n : ℕ) (r : Ran) → state_judged s ≡ Fine → n < r.events
+  here : (s : State) (e : ℕ) (script : List ℕ) (n : ℕ) (r : Ran) → state_judged s ≡ Ok tt → n < r.events
       → Same c (event_of p s e).after r.after → (Same c s r.after → ⊥) → From p (e ∷ script) s n c r
   unfolding after_of
   here s e script n r f k same d =
@@ -57,7 +57,7 @@ module _ (p : List ℕ) (size : length p ≡ 4096) (c : ℕ) (h : askable_of c �
       let k = o.done in
       record { place = suc o.place; inside = omega arith; done = omega arith; cycle = o.cycle; wrote = o.wrote }
 
-  origin_from : (target : ℕ) (script : List ℕ) (s : State) (n : ℕ) → state_judged s ≡ Fine
+  origin_from : (target : ℕ) (script : List ℕ) (s : State) (n : ℕ) → state_judged s ≡ Ok tt
       → (Same c s (run_of p target script s n).after → ⊥) → From p script s n c (run_of p target script s n)
   unfolding run_of
   origin_from target [] s n f = λ d. absurd (d refl)
@@ -75,7 +75,7 @@ module _ (p : List ℕ) (size : length p ≡ 4096) (c : ℕ) (h : askable_of c �
 -- at an address in the cell's list of writers, and that instruction left the value. So no interrupt, read of program data, timer,
 -- pulse, pin or reset ever changes such a cell.
 pub no_digit_from_elsewhere : (p : List ℕ) (target : ℕ) (script : List ℕ) (s : State) (c : ℕ)
-    → length p ≡ 4096 → state_judged s ≡ Fine → askable_of c ≡ true
+    → length p ≡ 4096 → state_judged s ≡ Ok tt → askable_of c ≡ true
     → (at (run_of p target script s 0).after.memory c ≡ at s.memory c → ⊥) → Origin p target script s c
 no_digit_from_elsewhere p target script s c size f h d =
     let o = origin_from p size c h target script s 0 f d in
@@ -84,7 +84,7 @@ no_digit_from_elsewhere p target script s c size f h d =
 
 -- So a cell that has no writers keeps its value in every run.
 pub unwritten_stays : (p : List ℕ) (target : ℕ) (script : List ℕ) (s : State) (c : ℕ)
-    → length p ≡ 4096 → state_judged s ≡ Fine → askable_of c ≡ true → writers_of p c ≡ []
+    → length p ≡ 4096 → state_judged s ≡ Ok tt → askable_of c ≡ true → writers_of p c ≡ []
     → at (run_of p target script s 0).after.memory c ≡ at s.memory c
 unwritten_stays p target script s c size f h none =
     test (eqb (at (run_of p target script s 0).after.memory c) (at s.memory c)) (eqb-true _ _)

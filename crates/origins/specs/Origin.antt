@@ -1,7 +1,6 @@
 -- Where a cell's value comes from: from an instruction at an address in the cell's list of writers.
-use Rattle.std.specs.Prelude.{◌≡◌, List, [], ◌∷◌, ℕ, ◌<◌, length, take}
+use Rattle.std.specs.Prelude.{◌≡◌, List, [], ◌∷◌, ℕ, ◌<◌, length, take, Ok}
 use Rattle.lent.specs.Lent.{at}
-use Rattle.word.specs.declared.Decoded.{Decoded}
 use Rattle.word.specs.declared.Instruction.{Instruction}
 use Rattle.word.specs.Word.{decode_of}
 use Rattle.sh_state.specs.State.{State}
@@ -24,7 +23,7 @@ pub record Wrote (p : List ℕ) (s : State) (c v : ℕ) : Type 0 where
   pub quiet : due_of s.memory ≡ 0
   pub listed : Has s.machine.pc (writers_of p c)
   pub instruction : Instruction
-  pub reads : decode_of (at p s.machine.pc) ≡ Decoded.Listed instruction
+  pub reads : decode_of (at p s.machine.pc) ≡ Ok instruction
   pub leaves : at (execute_of s instruction).memory c ≡ v
   pub another : v ≡ at s.memory c → ⊥
 

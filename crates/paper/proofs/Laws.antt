@@ -1,6 +1,6 @@
 -- A listing as loops write and read it: what is done, and what is still to be done.
-use mathlib.Core.Path.{◌≡◌, ◌∙◌, sym, ap}
-use mathlib.Core.Bool.{true, false}
+use Rattle.std.specs.Prelude.{Err, None, Ok, Some}
+use mathlib.Core.Path.{◌≡◌, ◌∙◌, refl, sym, ap}
 use mathlib.Core.List.{List, [], ◌∷◌, ◌++◌, append-nil}
 use Prim.Native.Nat.{ℕ, suc, ◌+◌, ◌-◌, ◌<◌, ◌≤◌}
 use native.Mathlib.Omega.{arith}
@@ -14,11 +14,8 @@ use Rattle.lent.proofs.Laws.{drop_more}
 use Rattle.refusal.specs.declared.Refusal.TheVariants.{ProgramLength, Room, Listing}
 use Rattle.text.specs.Text.{laid_of}
 use Rattle.text.proofs.Laws.{laid_none, laid_on, laid_front}
-use Rattle.line.specs.Line.{line_of, word_in, good_of, line_in}
+use Rattle.line.specs.Line.{line_of, line_in}
 use Rattle.line.proofs.Laws.{line_same}
-use Rattle.line.proofs.Exact.{read_good, read_bad}
-use Rattle.paper.specs.declared.Written.TheVariants as written
-use Rattle.paper.specs.declared.Taken.TheVariants as taken
 use Rattle.paper.specs.Listing.{lines_of, listing_of, placed_of, write_of, good_from, good_lines, whole, stored_of, read_of}
 
 -- an element laid first, and then the rest
@@ -51,16 +48,16 @@ fill_end p a l q h = rw (lines_none p a h) (sym (laid_none l q))
 
 -- The writer's answers.
 module _ (p o : List ℕ) where
-  pub other_length : (length p ≡ 4096 → ⊥) → outcome (written.Refused (ProgramLength (length p))) o ≡ write_of p o
+  pub other_length : (length p ≡ 4096 → ⊥) → outcome (Err (ProgramLength (length p))) o ≡ write_of p o
   unfolding write_of
   other_length h = rw (ne_eqb (length p) 4096 h)
 
   module _ (h : length p ≡ 4096) {n : ℕ} (e : n ≡ length (listing_of p)) where
-    pub no_room : length o < n → outcome (written.Refused (Room n)) o ≡ write_of p o
+    pub no_room : length o < n → outcome (Err (Room n)) o ≡ write_of p o
     unfolding write_of placed_of
     no_room k = rw (eq-eqb (length p) 4096 h, ← e, lt-ltb (length o) n k)
 
-    pub in_room : {o' : List ℕ} → n ≤ length o → o' ≡ laid_of o 0 (listing_of p) → outcome (written.Bytes n) o' ≡ write_of p o
+    pub in_room : {o' : List ℕ} → n ≤ length o → o' ≡ laid_of o 0 (listing_of p) → outcome (Ok n) o' ≡ write_of p o
     unfolding write_of placed_of
     in_room k f = rw (eq-eqb (length p) 4096 h, ← e, le-ltb (length o) n k, f, laid_front o (listing_of p) (omega arith))
 
@@ -71,25 +68,36 @@ module _ (a : ℕ) (t : List ℕ) where
   good_end h = let z : 4096 - a ≡ 0 = omega arith in rw z
 
   module _ (h : a < 4096) where
-    good_stop : good_of a t ≡ false → good_from (4096 - a) a t ≡ []
+    good_stop : line_in a t ≡ None → good_from (4096 - a) a t ≡ []
     unfolding good_from
     good_stop e = let z : 4096 - a ≡ suc (4096 - (a + 1)) = omega arith in rw (z, e)
 
-    good_more : good_of a t ≡ true → good_from (4096 - a) a t ≡ word_in t ∷ good_from (4096 - (a + 1)) (a + 1) (drop (length (line_of a (word_in t))) t)
+    good_more : (w : ℕ) → line_in a t ≡ Some w → good_from (4096 - a) a t ≡ w ∷ good_from (4096 - (a + 1)) (a + 1) (drop (length (line_of a w)) t)
     unfolding good_from
-    good_more e = let z : 4096 - a ≡ suc (4096 - (a + 1)) = omega arith in rw (z, e)
+    good_more w e = let z : 4096 - a ≡ suc (4096 - (a + 1)) = omega arith in rw (z, e)
 
-module _ (t : List ℕ) (a p : ℕ) (h : a < 4096) {w : ℕ} (e : w ≡ line_in a (drop p t)) where
+module _ (t : List ℕ) (a p : ℕ) (h : a < 4096) where
   -- no good line more
-  pub good_off : 65535 < w → good_from (4096 - a) a (drop p t) ≡ []
-  good_off n = good_stop a (drop p t) h (read_bad a (drop p t) e n)
+  pub good_off : line_in a (drop p t) ≡ None → good_from (4096 - a) a (drop p t) ≡ []
+  good_off e = good_stop a (drop p t) h e
 
   -- one good line more
-  pub good_on : (m : ℕ) → w ≤ 65535 → m ≡ length (line_of 0 w) → good_from (4096 - a) a (drop p t) ≡ w ∷ good_from (4096 - (a + 1)) (a + 1) (drop (p + m) t)
-  good_on m n k =
-      let g = read_good a (drop p t) e (omega arith) in
+  pub good_on : (w m : ℕ) → line_in a (drop p t) ≡ Some w → m ≡ length (line_of 0 w) → good_from (4096 - a) a (drop p t) ≡ w ∷ good_from (4096 - (a + 1)) (a + 1) (drop (p + m) t)
+  good_on w m e k =
       let z : length (line_of a w) ≡ m = line_same a w ∙ sym k in
-      good_more a (drop p t) h g.0 ∙ rw (← g.1, z, drop-drop m p t)
+      good_more a (drop p t) h w e ∙ rw (z, drop-drop m p t)
+
+-- no lines are left: what was counted and laid is all
+pub ended : (a p : ℕ) (w : List ℕ) {g : List ℕ} {n e : ℕ} {o : List ℕ} → g ≡ [] → a + length g ≡ n → p + length (lines_of a g) ≡ e → laid_of w a g ≡ o → ((a ≡ n) × (p ≡ e)) × (w ≡ o)
+unfolding lines_of
+ended a p w z x y l =
+    let b : length (lines_of a []) ≡ 0 = refl in
+    ((omega (arith, ap length z), omega (arith, b, ap (λ (s : List ℕ). length (lines_of a s)) z)), sym (laid_none w a) ∙ (ap (laid_of w a) (sym z) ∙ l))
+
+-- words at the front
+pub over_front : (o : List ℕ) {w s : List ℕ} → s ≡ w → s ++ drop (length w) o ≡ over w o
+unfolding over
+over_front o e = rw e
 
 -- the lines of one word more
 pub lines_on : (a w : ℕ) (p : List ℕ) → length (lines_of a (w ∷ p)) ≡ length (line_of 0 w) + length (lines_of (a + 1) p)
@@ -98,17 +106,17 @@ lines_on a w p = omega (arith, length-append (line_of a w) (lines_of (a + 1) p),
 
 -- The reader's answers.
 module _ (t o : List ℕ) {n e : ℕ} (f : n ≡ length (good_lines t)) (g : e ≡ length (listing_of (good_lines t))) where
-  pub too_few : (n ≡ 4096 → ⊥) → outcome (taken.Refused (Listing n)) o ≡ read_of t o
+  pub too_few : (n ≡ 4096 → ⊥) → outcome (Err (Listing n)) o ≡ read_of t o
   unfolding read_of whole
   too_few h = rw (← f, ne_eqb n 4096 h)
 
   module _ (h : n ≡ 4096) where
-    pub more_behind : (e ≡ length t → ⊥) → outcome (taken.Refused (Listing 4096)) o ≡ read_of t o
+    pub more_behind : (e ≡ length t → ⊥) → outcome (Err (Listing 4096)) o ≡ read_of t o
     unfolding read_of whole
     more_behind k = rw (← f, ← g, eq-eqb n 4096 h, ne_eqb e (length t) k, h)
 
     module _ (k : e ≡ length t) where
-      pub few_words : length o < 4096 → outcome (taken.Refused (Room 4096)) o ≡ read_of t o
+      pub few_words : length o < 4096 → outcome (Err (Room 4096)) o ≡ read_of t o
       unfolding read_of whole stored_of
       few_words r = rw (← f, ← g, eq-eqb n 4096 h, eq-eqb e (length t) k, lt-ltb (length o) 4096 r)
 
@@ -120,6 +128,6 @@ module _ (t o : List ℕ) {n e : ℕ} (f : n ≡ length (good_lines t)) (g : e �
           let s : length (good_lines t) ≤ length (replicate {A = ℕ} 4096 0) = omega (arith, length-replicate {A = ℕ} 4096 0) in
           q ∙ (laid_front (replicate {A = ℕ} 4096 0) (good_lines t) s ∙ (ap (λ (l : List ℕ). good_lines t ++ l) (drop_of_length-le (replicate {A = ℕ} 4096 0) r) ∙ append-nil (good_lines t)))
 
-      pub words_stored : {w o' : List ℕ} → w ≡ laid_of (replicate {A = ℕ} 4096 0) 0 (good_lines t) → 4096 ≤ length o → o' ≡ over w o → outcome taken.Words o' ≡ read_of t o
+      pub words_stored : {w o' : List ℕ} → w ≡ laid_of (replicate {A = ℕ} 4096 0) 0 (good_lines t) → 4096 ≤ length o → o' ≡ over w o → outcome (Ok tt) o' ≡ read_of t o
       unfolding read_of whole stored_of
       words_stored q r u = rw (← f, ← g, eq-eqb n 4096 h, eq-eqb e (length t) k, le-ltb (length o) 4096 r, u, all_words q)

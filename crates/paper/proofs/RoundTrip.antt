@@ -1,4 +1,5 @@
 -- Writer and reader are inverse to each other: a program's listing reads back as the program, and no other text is taken; 26 tells the first bad line.
+use Rattle.std.specs.Prelude.{Err, None, Ok, Option, Result, Some}
 use mathlib.Core.Path.{◌≡◌, ◌∙◌, refl, sym, ap}
 use mathlib.Core.Bool.{true}
 use mathlib.Core.List.{List, [], ◌∷◌, ◌++◌, append-nil}
@@ -15,23 +16,22 @@ use Rattle.refusal.specs.declared.Refusal.{Refusal}
 use Rattle.refusal.specs.declared.Refusal.TheVariants.{Room, Listing}
 use Rattle.text.specs.Text.{begins}
 use Rattle.text.proofs.Laws.{both_of_lem, begins_none, begins_append, begins_own, begins_split}
-use Rattle.line.specs.Line.{line_of, word_in, good_of}
+use Rattle.line.specs.Line.{line_of, line_in}
 use Rattle.line.proofs.Laws.{line_few}
-use Rattle.line.proofs.Exact.{line_word, line_good, good_line}
-use Rattle.paper.specs.declared.Written.{Written}
-use Rattle.paper.specs.declared.Written.TheVariants as written
-use Rattle.paper.specs.declared.Taken.{Taken}
-use Rattle.paper.specs.declared.Taken.TheVariants as taken
-use Rattle.paper.specs.Listing.{lines_of, listing_of, placed_of, write_of, good_from, good_lines, whole, stored_of, read_of, AllWords, FirstBad, Listed}
+use Rattle.line.proofs.Exact.{good_read, read_good}
+use Rattle.paper.specs.Listing.{lines_of, listing_of, placed_of, write_of, word_first, good_from, good_lines, whole, stored_of, read_of, AllWords, FirstBad, Listed}
 
 -- The good lines from an address on.
+
+by_word : (P : List ℕ → Type 0) (o : Option ℕ) (f : ℕ → List ℕ) → P [] → ((w : ℕ) → o ≡ Some w → P (w ∷ f w)) → P (word_first o f)
+by_word P None f x y = x
+by_word P (Some w) f x y = y w refl
 
 good_few : (n a : ℕ) (t : List ℕ) → length (good_from n a t) ≤ n
 unfolding good_from
 good_few zero a t = omega arith
 good_few (suc n) a t =
-    by_test (λ (l : List ℕ). length l ≤ suc n) (good_of a t) _ _
-    (λ e. omega (arith, good_few n (a + 1) (drop (length (line_of a (word_in t))) t))) (λ e. omega arith)
+    by_word (λ (l : List ℕ). length l ≤ suc n) (line_in a t) _ (omega arith) (λ w e. omega (arith, good_few n (a + 1) (drop (length (line_of a w)) t)))
 
 one_more : (w : ℕ) (p : List ℕ) → w < 65536 → AllWords p → AllWords (w ∷ p)
 one_more w p h f zero = h
@@ -44,22 +44,20 @@ good_sized : (n a : ℕ) (t : List ℕ) → AllWords (good_from n a t)
 unfolding good_from
 good_sized zero a t = λ i. omega arith
 good_sized (suc n) a t =
-    let r = drop (length (line_of a (word_in t))) t in
-    by_test AllWords (good_of a t) (word_in t ∷ good_from n (a + 1) r) []
-    (λ e. one_more (word_in t) (good_from n (a + 1) r) (good_line a t e).0 (good_sized n (a + 1) r)) (λ e i. omega arith)
+    by_word AllWords (line_in a t) _ (λ i. omega arith)
+    (λ w e. one_more w (good_from n (a + 1) (drop (length (line_of a w)) t)) (read_good a t e).fits (good_sized n (a + 1) (drop (length (line_of a w)) t)))
 
 -- they stand in front
 good_front : (n a : ℕ) (t : List ℕ) → begins (lines_of a (good_from n a t)) t ≡ true
 unfolding good_from lines_of
 good_front zero a t = begins_none t
 good_front (suc n) a t =
-    let l = line_of a (word_in t) in
+    by_word (λ (p : List ℕ). begins (lines_of a p) t ≡ true) (line_in a t) _ (begins_none t)
+    (λ w e.
+    let l = line_of a w in
     let r = drop (length l) t in
-    by_test (λ (p : List ℕ). begins (lines_of a p) t ≡ true) (good_of a t) _ _
-    (λ e.
     begins_append l (lines_of (a + 1) (good_from n (a + 1) r)) t
-    ∙ both_of_lem (begins l t) (begins (lines_of (a + 1) (good_from n (a + 1) r)) r) (good_line a t e).1 (good_front n (a + 1) r))
-    (λ e. begins_none t)
+    ∙ both_of_lem (begins l t) (begins (lines_of (a + 1) (good_from n (a + 1) r)) r) (read_good a t e).there (good_front n (a + 1) r))
 
 -- and every row of lines that stands in front is among them
 good_most : (n a : ℕ) (p t : List ℕ) → length p ≤ n → AllWords p → begins (lines_of a p) t ≡ true → take (length p) (good_from n a t) ≡ p
@@ -68,8 +66,7 @@ good_most n a [] t h f e = refl
 good_most zero a (w ∷ p) t h f e = absurd (omega arith)
 good_most (suc n) a (w ∷ p) t h f e =
     let b = both_true (begins (line_of a w) t) (begins (lines_of (a + 1) p) (drop (length (line_of a w)) t)) (sym (begins_append (line_of a w) (lines_of (a + 1) p) t) ∙ e) in
-    let z = line_word a w t (f 0) b.0 in
-    rw (line_good a w t (f 0) b.0, z) (ap (λ (q : List ℕ). w ∷ q) (good_most n (a + 1) p (drop (length (line_of a w)) t) (omega arith) (one_less w p f) b.1))
+    rw (good_read a w t (f 0) b.0) (ap (λ (q : List ℕ). w ∷ q) (good_most n (a + 1) p (drop (length (line_of a w)) t) (omega arith) (one_less w p f) b.1))
 
 -- THE PROGRAM'S LISTING reads back as the program.
 
@@ -93,31 +90,31 @@ pub read_back : (p room : List ℕ) → length p ≡ 4096 → AllWords p → rea
 unfolding read_of
 read_back p room n f = rw (whole_own p n f, lines_back p n f)
 
-apart_written : {why : Refusal} {n : ℕ} {A : Type 0} → written.Refused why ≡ written.Bytes n → A
+apart_written : {why : Refusal} {n : ℕ} {A : Type 0} → Err why ≡ Ok n → A
 apart_written e = let z : ◌≡◌ {A = ℕ} 0 1 = cc in absurd (omega arith)
 
-bytes_of : {m n : ℕ} → written.Bytes m ≡ written.Bytes n → m ≡ n
+bytes_of : {m n : ℕ} → ◌≡◌ {A = Result ℕ Refusal} (Ok m) (Ok n) → m ≡ n
 bytes_of e = cc
 
-told : {a : Written} {o : List ℕ} {r : Outcome Written} → r ≡ outcome a o → r.answer ≡ a
-told e = ap (λ (x : Outcome Written). x.answer) e
+told : {a : Result ℕ Refusal} {o : List ℕ} {r : Outcome (Result ℕ Refusal)} → r ≡ outcome a o → r.answer ≡ a
+told e = ap (λ (x : Outcome (Result ℕ Refusal)). x.answer) e
 
 -- what the writer's call has written: so many bytes of its room are the listing
-pub written_is : (p room o : List ℕ) (n : ℕ) → write_of p room ≡ outcome (written.Bytes n) o → (length p ≡ 4096) × (take n o ≡ listing_of p)
+pub written_is : (p room o : List ℕ) (n : ℕ) → write_of p room ≡ outcome (Ok n) o → (length p ≡ 4096) × (take n o ≡ listing_of p)
 unfolding write_of placed_of over
 written_is p room o n =
     let l = listing_of p in
-    let Says : Outcome Written → Type 0 = λ r. r ≡ outcome (written.Bytes n) o → (length p ≡ 4096) × (take n o ≡ l) in
+    let Says : Outcome (Result ℕ Refusal) → Type 0 = λ r. r ≡ outcome (Ok n) o → (length p ≡ 4096) × (take n o ≡ l) in
     by_eq Says (length p) 4096 _ _
     (λ h. by_lt Says (length room) (length l) _ _ (λ k e. apart_written (told e))
     (λ k e.
     let m = bytes_of (told e) in
-    let f : l ++ drop (length l) room ≡ o = ap (λ (x : Outcome Written). x.room) e in
+    let f : l ++ drop (length l) room ≡ o = ap (λ (x : Outcome (Result ℕ Refusal)). x.room) e in
     (h, rw (← m, ← f) (take-append_seam l (drop (length l) room)))))
     (λ h e. apart_written (told e))
 
 -- and the reader's call, given them, reads the program
-pub written_back : (p room o : List ℕ) (n : ℕ) (r : List ℕ) → AllWords p → write_of p room ≡ outcome (written.Bytes n) o → read_of (take n o) r ≡ stored_of p r
+pub written_back : (p room o : List ℕ) (n : ℕ) (r : List ℕ) → AllWords p → write_of p room ≡ outcome (Ok n) o → read_of (take n o) r ≡ stored_of p r
 written_back p room o n r f e =
     let w = written_is p room o n e in
     ap (λ (t : List ℕ). read_of t r) w.1 ∙ read_back p r w.0 f
@@ -146,18 +143,18 @@ whole_listed t e =
 pub listed_whole : (t p : List ℕ) → Listed t p → whole t ≡ true
 listed_whole t p l = rw l.is (whole_own p l.many l.sized)
 
-apart : {why : Refusal} {A : Type 0} → taken.Refused why ≡ taken.Words → A
+apart : {why : Refusal} {A : Type 0} → ◌≡◌ {A = Result (Unit {0}) Refusal} (Err why) (Ok tt) → A
 apart e = let z : ◌≡◌ {A = ℕ} 0 1 = cc in absurd (omega arith)
 
-answers : {a : Taken} {o : List ℕ} {r : Outcome Taken} → r ≡ outcome a o → r.answer ≡ a
-answers e = ap (λ (x : Outcome Taken). x.answer) e
+answers : {a : Result (Unit {0}) Refusal} {o : List ℕ} {r : Outcome (Result (Unit {0}) Refusal)} → r ≡ outcome a o → r.answer ≡ a
+answers e = ap (λ (x : Outcome (Result (Unit {0}) Refusal)). x.answer) e
 
-pub accepted : (t room o : List ℕ) → read_of t room ≡ outcome taken.Words o → Listed t (good_lines t) × (o ≡ over (good_lines t) room)
+pub accepted : (t room o : List ℕ) → read_of t room ≡ outcome (Ok tt) o → Listed t (good_lines t) × (o ≡ over (good_lines t) room)
 unfolding read_of stored_of
 accepted t room o =
-    let Says : Outcome Taken → Type 0 = λ r. r ≡ outcome taken.Words o → Listed t (good_lines t) × (o ≡ over (good_lines t) room) in
+    let Says : Outcome (Result (Unit {0}) Refusal) → Type 0 = λ r. r ≡ outcome (Ok tt) o → Listed t (good_lines t) × (o ≡ over (good_lines t) room) in
     by_test Says (whole t) _ _
-    (λ a. by_lt Says (length room) 4096 _ _ (λ k e. apart (answers e)) (λ k e. (whole_listed t a, sym (ap (λ (x : Outcome Taken). x.room) e))))
+    (λ a. by_lt Says (length room) 4096 _ _ (λ k e. apart (answers e)) (λ k e. (whole_listed t a, sym (ap (λ (x : Outcome (Result (Unit {0}) Refusal)). x.room) e))))
     (λ a e. apart (answers e))
 
 -- what was taken, written again, is the text
@@ -184,7 +181,7 @@ first_bad t = record {
 pub first_bad_one : (t : List ℕ) (m n : ℕ) → FirstBad t m → FirstBad t n → m ≡ n
 first_bad_one t m n x y = omega (arith, x.most n y.within y.good, y.most m x.within x.good)
 
-reason_of_lem : {v w : Refusal} → taken.Refused v ≡ taken.Refused w → v ≡ w
+reason_of_lem : {v w : Refusal} → ◌≡◌ {A = Result (Unit {0}) Refusal} (Err v) (Err w) → v ≡ w
 reason_of_lem e = cc
 
 line_of_lem : {m n : ℕ} → Listing m ≡ Listing n → m ≡ n
@@ -193,19 +190,19 @@ line_of_lem e = cc
 other_reason : {m n : ℕ} {A : Type 0} → Room m ≡ Listing n → A
 other_reason e = let z : ◌≡◌ {A = ℕ} 0 1 = cc in absurd (omega arith)
 
-words_or_not : {v : Refusal} {A : Type 0} → taken.Words ≡ taken.Refused v → A
+words_or_not : {v : Refusal} {A : Type 0} → ◌≡◌ {A = Result (Unit {0}) Refusal} (Ok tt) (Err v) → A
 words_or_not e = apart (sym e)
 
 -- a text that is refused by 26 is no program's listing, its line is the first bad one, and the room stays
-pub refused_line : (t room o : List ℕ) (n : ℕ) → read_of t room ≡ outcome (taken.Refused (Listing n)) o → (((p : List ℕ) → Listed t p → ⊥) × FirstBad t n) × (o ≡ room)
+pub refused_line : (t room o : List ℕ) (n : ℕ) → read_of t room ≡ outcome (Err (Listing n)) o → (((p : List ℕ) → Listed t p → ⊥) × FirstBad t n) × (o ≡ room)
 unfolding read_of stored_of
 refused_line t room o n =
-    let Says : Outcome Taken → Type 0 = λ r. r ≡ outcome (taken.Refused (Listing n)) o → (((p : List ℕ) → Listed t p → ⊥) × FirstBad t n) × (o ≡ room) in
+    let Says : Outcome (Result (Unit {0}) Refusal) → Type 0 = λ r. r ≡ outcome (Err (Listing n)) o → (((p : List ℕ) → Listed t p → ⊥) × FirstBad t n) × (o ≡ room) in
     by_test Says (whole t) _ _
     (λ a. by_lt Says (length room) 4096 _ _ (λ k e. other_reason (reason_of_lem (answers e))) (λ k e. words_or_not (answers e)))
     (λ a e.
     let m = line_of_lem (reason_of_lem (answers e)) in
-    (((λ p l. never (sym a ∙ listed_whole t p l)), rw (← m) (first_bad t)), sym (ap (λ (x : Outcome Taken). x.room) e)))
+    (((λ p l. never (sym a ∙ listed_whole t p l)), rw (← m) (first_bad t)), sym (ap (λ (x : Outcome (Result (Unit {0}) Refusal)). x.room) e)))
 
 -- HOW LONG a listing can be: 21 bytes for each line.
 

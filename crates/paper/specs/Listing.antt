@@ -1,15 +1,12 @@
 -- A program on paper (02, P3): the listing that the writer gives, what the reader takes, and the refusals of both.
-use Rattle.std.specs.Prelude.{ℕ, zero, suc, ◌+◌, ◌<◌, ◌≤◌, ◌≡◌, Bool, true, List, [], ◌∷◌, ◌++◌, ltb, eqb, length, drop}
+use Rattle.std.specs.Prelude.{ℕ, zero, suc, ◌+◌, ◌<◌, ◌≤◌, ◌≡◌, Bool, true, List, [], ◌∷◌, ◌++◌, ltb, eqb, length, drop, Err, None, Ok, Option, Result, Some}
 use Rattle.lent.specs.Lent.{pick, both, at, over}
 use Rattle.lent.specs.Outcome.{Outcome, outcome}
 use Rattle.refusal.specs.declared.Refusal.TheVariants.{ProgramLength, Room, Listing}
 use Rattle.refusal.specs.Told.{Said, Counted, counted, done_told, refused_told}
 use Rattle.text.specs.Text.{begins}
-use Rattle.line.specs.Line.{line_of, word_in, good_of}
-use Rattle.paper.specs.declared.Written.{Written}
-use Rattle.paper.specs.declared.Written.TheVariants as written
-use Rattle.paper.specs.declared.Taken.{Taken}
-use Rattle.paper.specs.declared.Taken.TheVariants as taken
+use Rattle.line.specs.Line.{line_of, line_in}
+use Rattle.refusal.specs.declared.Refusal.{Refusal}
 
 -- the lines of words, the first at address a: "one line per address"
 unfoldable pub lines_of : ℕ → List ℕ → List ℕ
@@ -21,22 +18,26 @@ unfoldable pub listing_of : List ℕ → List ℕ
 listing_of p = lines_of 0 p
 
 -- 7 for room, with the length of this listing; bytes beyond what is written stay
-unfoldable pub placed_of : List ℕ → List ℕ → Outcome Written
+unfoldable pub placed_of : List ℕ → List ℕ → Outcome (Result ℕ Refusal)
 placed_of l room =
     pick (ltb (length room) (length l))
-    (outcome (written.Refused (Room (length l))) room)
-    (outcome (written.Bytes (length l)) (over l room))
+    (outcome (Err (Room (length l))) room)
+    (outcome (Ok (length l)) (over l room))
 
 -- THE WRITER: 1, then 7; its answer and what the room then holds
-unfoldable pub write_of : List ℕ → List ℕ → Outcome Written
+unfoldable pub write_of : List ℕ → List ℕ → Outcome (Result ℕ Refusal)
 write_of p room =
-    pick (eqb (length p) 4096) (placed_of (listing_of p) room) (outcome (written.Refused (ProgramLength (length p))) room)
+    pick (eqb (length p) 4096) (placed_of (listing_of p) room) (outcome (Err (ProgramLength (length p))) room)
+
+-- a word in front of what follows it; nothing where there is no word
+abbrev pub word_first : Option ℕ → (ℕ → List ℕ) → List ℕ
+word_first None rest = []
+word_first (Some w) rest = w ∷ rest w
 
 -- the words of the good lines that a text begins with, at most n of them, the first for address a
 unfoldable pub good_from : ℕ → ℕ → List ℕ → List ℕ
 good_from zero a t = []
-good_from (suc n) a t =
-    pick (good_of a t) (word_in t ∷ good_from n (a + 1) (drop (length (line_of a (word_in t))) t)) []
+good_from (suc n) a t = word_first (line_in a t) (λ w. good_from n (a + 1) (drop (length (line_of a w)) t))
 
 -- THE GOOD LINES that a text begins with, at most 4,096: their words
 unfoldable pub good_lines : List ℕ → List ℕ
@@ -47,24 +48,24 @@ unfoldable pub whole : List ℕ → Bool
 whole t = both (eqb (length (good_lines t)) 4096) (eqb (length (listing_of (good_lines t))) (length t))
 
 -- 7 for room, with 4,096 words; words beyond what is written stay
-unfoldable pub stored_of : List ℕ → List ℕ → Outcome Taken
+unfoldable pub stored_of : List ℕ → List ℕ → Outcome (Result (Unit {0}) Refusal)
 stored_of p room =
-    pick (ltb (length room) 4096) (outcome (taken.Refused (Room 4096)) room) (outcome taken.Words (over p room))
+    pick (ltb (length room) 4096) (outcome (Err (Room 4096)) room) (outcome (Ok tt) (over p room))
 
 -- THE READER: "26 for a text that isn't such a listing, with the first bad line, counted from 0", which is the number of good lines in front; then 7
-unfoldable pub read_of : List ℕ → List ℕ → Outcome Taken
+unfoldable pub read_of : List ℕ → List ℕ → Outcome (Result (Unit {0}) Refusal)
 read_of t room =
-    pick (whole t) (stored_of (good_lines t) room) (outcome (taken.Refused (Listing (length (good_lines t)))) room)
+    pick (whole t) (stored_of (good_lines t) room) (outcome (Err (Listing (length (good_lines t)))) room)
 
 -- what is told of a writing: how many bytes, beside
-unfoldable pub written_told : Written → ℕ → Counted
-written_told (written.Bytes n) count = counted done_told n
-written_told (written.Refused why) count = counted (refused_told why) count
+unfoldable pub written_told : Result ℕ Refusal → ℕ → Counted
+written_told (Ok n) count = counted done_told n
+written_told (Err why) count = counted (refused_told why) count
 
 -- what is told of a reading
-unfoldable pub taken_told : Taken → Said
-taken_told taken.Words = done_told
-taken_told (taken.Refused why) = refused_told why
+unfoldable pub taken_told : Result (Unit {0}) Refusal → Said
+taken_told (Ok tt) = done_told
+taken_told (Err why) = refused_told why
 
 -- What the theorems say.
 

@@ -1,16 +1,13 @@
 -- The picture (01, "Panel book"): "one byte 0/1 per element; all 0 when LCDON is 0 or in STOP".
-use Rattle.std.specs.Prelude.{ℕ, zero, suc, ◌+◌, ◌/◌, ◌%◌, ◌^◌, Bool, false, List, [], ◌∷◌, ltb, eqb, length}
+use Rattle.std.specs.Prelude.{ℕ, zero, suc, ◌+◌, ◌/◌, ◌%◌, ◌^◌, Bool, false, List, [], ◌∷◌, ltb, eqb, length, Err, Ok, Result}
 use Rattle.lent.specs.Lent.{pick, at, pasted_of}
 use Rattle.refusal.specs.declared.Refusal.TheVariants as refusal
-use Rattle.sh_rules.specs.declared.judge.Judged.{Judged}
-use Rattle.sh_rules.specs.declared.judge.Judged.TheVariants as judged
 use Rattle.sh_rules.specs.Judge.{first_of, state_judged}
 use Rattle.sh_state.specs.State.{State}
-use Rattle.picture.specs.declared.Drawn.{Drawn}
-use Rattle.picture.specs.declared.Drawn.TheVariants as drawn
 use Rattle.lent.specs.Outcome.{Outcome, outcome}
 use Rattle.body.specs.Body.{element_address, element_bit, wiring_judged}
 use Rattle.refusal.specs.Told.{Counted, counted, done_told, refused_told}
+use Rattle.refusal.specs.declared.Refusal.{Refusal}
 
 -- a bit of a cell
 unfoldable pub bit_of : ℕ → ℕ → ℕ
@@ -36,22 +33,22 @@ unfoldable pub shown_of : Bool → List ℕ → List ℕ → List ℕ
 shown_of lit memory wiring = elements_from lit memory wiring (length wiring / 3) 0
 
 -- 7, last of all; "Bytes beyond what is written stay"
-unfoldable pub draw_of : List ℕ → List ℕ → Outcome Drawn
+unfoldable pub draw_of : List ℕ → List ℕ → Outcome (Result ℕ Refusal)
 draw_of shown room =
     pick (ltb (length room) (length shown))
-    (outcome (drawn.Refused (refusal.Room (length shown))) room)
-    (outcome (drawn.Elements (length shown)) (pasted_of room 0 shown))
+    (outcome (Err (refusal.Room (length shown))) room)
+    (outcome (Ok (length shown)) (pasted_of room 0 shown))
 
-unfoldable pub drawn_of : Judged → List ℕ → List ℕ → Outcome Drawn
-drawn_of judged.Fine shown room = draw_of shown room
-drawn_of (judged.Refused why) shown room = outcome (drawn.Refused why) room
+unfoldable pub drawn_of : Result (Unit {0}) Refusal → List ℕ → List ℕ → Outcome (Result ℕ Refusal)
+drawn_of (Ok tt) shown room = draw_of shown room
+drawn_of (Err why) shown room = outcome (Err why) room
 
 -- THE PICTURE: 2, 3, 4, 10, 11, then 7; its answer and what the room then holds
-unfoldable pub picture_of : State → List ℕ → List ℕ → Outcome Drawn
+unfoldable pub picture_of : State → List ℕ → List ℕ → Outcome (Result ℕ Refusal)
 picture_of s wiring room =
     drawn_of (first_of (state_judged s) (wiring_judged wiring)) (shown_of (lit_of s) s.memory wiring) room
 
 -- what is told of a picture: how many elements, beside
-unfoldable pub drawn_told : Drawn → ℕ → Counted
-drawn_told (drawn.Elements n) count = counted done_told n
-drawn_told (drawn.Refused why) count = counted (refused_told why) count
+unfoldable pub drawn_told : Result ℕ Refusal → ℕ → Counted
+drawn_told (Ok n) count = counted done_told n
+drawn_told (Err why) count = counted (refused_told why) count

@@ -9,28 +9,18 @@ ghost use Rattle.picture.specs.Picture.{bit_of, lit_of, shown_at, element_of, sh
 use refusal::Refusal;
 use sh_map::map;
 use sh_rules::judge;
-use sh_rules::judge::Judged;
 use sh_state::machine::Machine;
 
 const LCD: u16 = 0x007;
 
 const STOP: u8 = 2;
 
-#[derive(Clone, Copy)]
-pub enum Drawn {
-    Elements(usize),
-    Refused(Refusal),
-}
-
 // A bit of a cell.
-#[tactic(auto, unfolding(crate::specs::Picture::bit_of))]
+#[tactic(auto, using(crate::proofs::Laws::no_bit), unfolding(crate::specs::Picture::bit_of))]
 fn bit(v: u8, b: u8) -> u8
     ensures { result ≡ bit_of v b }
 {
-    if b < 8 {
-        return (v >> b) % 2;
-    }
-    0
+    if b < 8 { (v >> b) % 2 } else { 0 }
 }
 
 // Whether the display shows: LCDON is 1, and the machine is not in STOP.
@@ -38,10 +28,7 @@ fn bit(v: u8, b: u8) -> u8
 fn lit(m: Machine, memory: &[u8]) -> bool
     ensures { result ≡ lit_of (state m memory.now) }
 {
-    if m.mode == STOP {
-        return false;
-    }
-    map::cell(memory, LCD) / 4 % 2 == 1
+    m.mode != STOP && map::cell(memory, LCD) / 4 % 2 == 1
 }
 
 // What the memory holds for an element.
@@ -60,36 +47,30 @@ fn element(lit: bool, memory: &[u8], wiring: &[u8], k: usize) -> u8
     requires { 3 * k + 2 < length wiring.now }
     ensures { result ≡ element_of lit memory.now wiring.now k }
 {
-    if lit {
-        return shown(memory, wiring, k);
-    }
-    0
+    if lit { shown(memory, wiring, k) } else { 0 }
 }
 
 // The elements one after the other, where the room holds them.
-fn draw(lit: bool, memory: &[u8], wiring: &[u8], room: &mut [u8]) -> Drawn
+#[tactic(auto, using(crate::proofs::Laws::shown_length), unfolding(crate::specs::Picture::draw_of))]
+fn draw(lit: bool, memory: &[u8], wiring: &[u8], room: &mut [u8]) -> Result<usize, Refusal>
     ensures { outcome result room.new ≡ draw_of (shown_of lit memory.now wiring.now) room.old }
 {
     let n = wiring.len() / 3;
     if room.len() < n {
-        return Drawn::Refused(Refusal::Room(n as u64));
+        return Err(Refusal::Room(n as u64));
     }
-    let mut k: usize = 0;
-    while k < n {
-        room[k] = element(lit, memory, wiring, k);
-        k += 1;
+    for (k, place) in room[..n].iter_mut().enumerate() {
+        *place = element(lit, memory, wiring, k);
     }
-    Drawn::Elements(n)
+    Ok(n)
 }
 
 // The picture of a machine's display by a wiring, or why it is not drawn; what lies beyond it in the room stays.
-#[tactic(auto, unfolding(crate::specs::Picture::picture_of, crate::specs::Picture::drawn_of))]
-pub fn picture(m: Machine, memory: &[u8], wiring: &[u8], room: &mut [u8]) -> Drawn
+#[tactic(auto, unfolding(crate::specs::Picture::picture_of, crate::specs::Picture::drawn_of, sh_rules::specs::Judge::first_of))]
+pub fn picture(m: Machine, memory: &[u8], wiring: &[u8], room: &mut [u8]) -> Result<usize, Refusal>
     ensures { outcome result room.new ≡ picture_of (state m memory.now) wiring.now room.old }
 {
-    let j = judge::first(judge::machine(m, memory), body::wiring(wiring));
-    match j {
-        Judged::Fine => draw(lit(m, memory), memory, wiring, room),
-        Judged::Refused(why) => Drawn::Refused(why),
-    }
+    judge::machine(m, memory)?;
+    body::wiring(wiring)?;
+    draw(lit(m, memory), memory, wiring, room)
 }

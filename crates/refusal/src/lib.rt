@@ -6,26 +6,39 @@ ghost use Rattle.refusal.specs.Refusal.{number_of, value_of};
 
 #[derive(Clone, Copy)]
 pub enum Refusal {
+    // the length
     ProgramLength(u64),
+    // the length
     MemoryLength(u64),
+    // the lowest address
     CellRule(u64),
     Record,
+    // the first place
     UnknownEvent(u64),
+    // its address, or the word where a word is read
     UnlistedWord(u64),
+    // the room needed
     Room(u64),
+    // the address
     NotAskable(u64),
+    // 0 high, 1 low
     Digit(u64),
     Contents,
+    // the body kind
     Body(u64),
+    // what was given
     Options(u64),
     Field,
+    // the first bad line
     Listing(u64),
+    // the byte's place
     Car(u64),
+    // the byte's place
     CutEntry(u64),
     Tables,
 }
 
-// The table's number.
+// The table's number; functions, not methods, since callers and pages name them `refusal::number` and `refusal::value`.
 pub fn number(why: Refusal) -> u32
     ensures { result ≡ number_of why }
 {
@@ -55,22 +68,19 @@ pub fn value(why: Refusal) -> u64
     ensures { result ≡ value_of why }
 {
     match why {
-        Refusal::ProgramLength(length) => length,
-        Refusal::MemoryLength(length) => length,
-        Refusal::CellRule(address) => address,
-        Refusal::Record => 0,
-        Refusal::UnknownEvent(place) => place,
-        Refusal::UnlistedWord(address) => address,
-        Refusal::Room(needed) => needed,
-        Refusal::NotAskable(address) => address,
-        Refusal::Digit(which) => which,
-        Refusal::Contents => 0,
-        Refusal::Body(kind) => kind,
-        Refusal::Options(given) => given,
-        Refusal::Field => 0,
-        Refusal::Listing(line) => line,
-        Refusal::Car(place) => place,
-        Refusal::CutEntry(place) => place,
-        Refusal::Tables => 0,
+        Refusal::Record | Refusal::Contents | Refusal::Field | Refusal::Tables => 0,
+        Refusal::ProgramLength(value)
+        | Refusal::MemoryLength(value)
+        | Refusal::CellRule(value)
+        | Refusal::UnknownEvent(value)
+        | Refusal::UnlistedWord(value)
+        | Refusal::Room(value)
+        | Refusal::NotAskable(value)
+        | Refusal::Digit(value)
+        | Refusal::Body(value)
+        | Refusal::Options(value)
+        | Refusal::Listing(value)
+        | Refusal::Car(value)
+        | Refusal::CutEntry(value) => value,
     }
 }

@@ -1,5 +1,5 @@
 -- What an address means, what a cell reads as, and what reading it does (01, "One instruction"; 02, P2).
-use Rattle.std.specs.Prelude.{ℕ, ◌+◌, ◌-◌, ◌*◌, ◌/◌, ◌%◌, List, eqb}
+use Rattle.std.specs.Prelude.{ℕ, ◌+◌, ◌-◌, ◌*◌, ◌/◌, List, eqb}
 use Rattle.std.specs.Int.Bits.{bit_and, bit_or}
 use Rattle.lent.specs.Lent.{pick, at}
 use Rattle.sh_state.specs.declared.machine.Machine.{Machine}

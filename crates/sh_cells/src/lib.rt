@@ -60,12 +60,8 @@ fn plain_in(k: Kind, memory: &[u8], a: u16) -> u8
     ensures { result ≡ plain_in k memory.now a }
 {
     match k {
-        Kind::Register => map::cell(memory, a),
-        Kind::Data => map::cell(memory, a),
-        Kind::Display => map::cell(memory, a),
-        Kind::Scan => map::cell(memory, a),
-        Kind::Sound => 0,
-        Kind::Unmapped => 0,
+        Kind::Register | Kind::Data | Kind::Display | Kind::Scan => { map::cell(memory, a) }
+        Kind::Sound | Kind::Unmapped => 0,
     }
 }
 
@@ -81,35 +77,25 @@ fn plain(memory: &[u8], a: u16) -> u8
 pub fn value(m: Machine, memory: &[u8], a: u16) -> u8
     ensures { result ≡ value_of (state m memory.now) a }
 {
-    if a == 0x04 {
-        return sh_halves::low(m.frozen, m.counter);
+    match a {
+        0x04 => sh_halves::low(m.frozen, m.counter),
+        0x05 => m.counter / 16,
+        0x08 => port_cell(m.pina, memory, 0x08, 0x16),
+        0x09 => port_cell(m.pinb, memory, 0x09, 0x17),
+        0x0A => port_cell(m.pinc, memory, 0x0A, 0x18),
+        0x0B => port_cell(m.pind, memory, 0x0B, 0x19),
+        _ => plain(memory, a),
     }
-    if a == 0x05 {
-        return m.counter / 16;
-    }
-    if a == 0x08 {
-        return port_cell(m.pina, memory, 0x08, 0x16);
-    }
-    if a == 0x09 {
-        return port_cell(m.pinb, memory, 0x09, 0x17);
-    }
-    if a == 0x0A {
-        return port_cell(m.pinc, memory, 0x0A, 0x18);
-    }
-    if a == 0x0B {
-        return port_cell(m.pind, memory, 0x0B, 0x19);
-    }
-    plain(memory, a)
 }
 
-// The watchdog started anew, at the period that its control chooses.
+// The watchdog started anew, at the period that its control chooses. (Stores into the record: `Machine { .., ..m }` is copied in more and
+// other parts, which costs a general event more.)
 #[tactic(auto, unfolding(crate::specs::Cells::restarted_of, sh_state::specs::Record::set_watchdog))]
-pub fn restarted(m: Machine, control: u8) -> Machine
+pub fn restarted(mut m: Machine, control: u8) -> Machine
     ensures { result ≡ restarted_of m control }
 {
-    let mut n = m;
-    n.watchdog = sh_periods::period(control);
-    n
+    m.watchdog = sh_periods::period(control);
+    m
 }
 
 fn restarted_as_held(m: Machine, memory: &[u8]) -> Machine
@@ -119,21 +105,19 @@ fn restarted_as_held(m: Machine, memory: &[u8]) -> Machine
 }
 
 #[tactic(auto, unfolding(sh_state::specs::Record::set_frozen))]
-fn released(m: Machine) -> Machine
+fn released(mut m: Machine) -> Machine
     ensures { result ≡ set_frozen m released_of }
 {
-    let mut n = m;
-    n.frozen = sh_halves::released();
-    n
+    m.frozen = sh_halves::released();
+    m
 }
 
 #[tactic(auto, unfolding(sh_state::specs::Record::set_frozen))]
-fn frozen(m: Machine) -> Machine
+fn frozen(mut m: Machine) -> Machine
     ensures { result ≡ set_frozen m (frozen_of m.counter) }
 {
-    let mut n = m;
-    n.frozen = sh_halves::freeze(m.counter);
-    n
+    m.frozen = sh_halves::freeze(m.counter);
+    m
 }
 
 // What reading a cell does to the record: $004 releases Timer0's frozen nibble, $005 freezes one, $01E restarts the watchdog.
@@ -141,14 +125,10 @@ fn frozen(m: Machine) -> Machine
 pub fn seen(m: Machine, memory: &[u8], a: u16) -> Machine
     ensures { result ≡ seen_of (state m memory.now) a }
 {
-    if a == 0x04 {
-        return released(m);
+    match a {
+        0x04 => released(m),
+        0x05 => frozen(m),
+        0x1E => restarted_as_held(m, memory),
+        _ => m,
     }
-    if a == 0x05 {
-        return frozen(m);
-    }
-    if a == 0x1E {
-        return restarted_as_held(m, memory);
-    }
-    m
 }

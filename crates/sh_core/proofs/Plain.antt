@@ -1,6 +1,6 @@
 -- A cell of data, display or scan lies past the registers, reads as what it holds, and takes the four bits written; the record notices neither.
 use mathlib.Core.Path.{◌≡◌, refl}
-use mathlib.Core.Bool.{true, false}
+use mathlib.Core.Bool.{true}
 use Prim.Native.Nat.{ℕ, ◌≤◌}
 use native.Mathlib.Omega.{arith}
 use lib.Bits.{bit_and, bit_or}

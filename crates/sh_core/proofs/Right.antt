@@ -1,4 +1,5 @@
 -- A word that goes does to PC, AC, CY and the memory what its instruction does to the machine, and leaves the rest of it.
+use Rattle.std.specs.Prelude.{Err, Ok, Result}
 use mathlib.Core.Path.{◌≡◌, refl, ap}
 use mathlib.Core.Bool.{Bool, true, false}
 use mathlib.Core.List.{List}
@@ -9,14 +10,11 @@ use borrow.Author.Tests.{lt-ltb, le-ltb, eq-eqb, ne_eqb}
 use Rattle.lent.specs.Lent.{pick}
 use Rattle.lent.proofs.Laws.{by_choice, by_test, by_lt, never}
 use Rattle.word.specs.declared.Operation.{Operation}
-use Rattle.word.specs.declared.Operation.TheVariants as Operation
 use Rattle.word.specs.declared.ImmediateOperation.{ImmediateOperation}
 use Rattle.word.specs.declared.ImmediateOperation.TheVariants.{Adi, Adim, Sbi, Sbim, Eorim, Orim, Andim}
 use Rattle.word.specs.declared.Condition.{Condition}
 use Rattle.word.specs.declared.Instruction.{Instruction}
 use Rattle.word.specs.declared.Instruction.TheVariants.{Accumulator, Memory, Lda, Sta, Immediate, Ldi, Branch, Call, Daa, Das, Rtnw, Rtni, Halt, Stop, Jmp, Shr, Tjmp, Nop}
-use Rattle.word.specs.declared.Decoded.{Decoded}
-use Rattle.word.specs.declared.Decoded.TheVariants.{Listed, Refused}
 use Rattle.word.specs.Codes.{immediate_of}
 use Rattle.word.specs.Word.{decode_of, accumulator_of, transfer_of}
 use Rattle.alu.specs.declared.Sum.{Sum}
@@ -33,11 +31,12 @@ use Rattle.sh_core.specs.declared.Core.{Core}
 use Rattle.sh_core.specs.Quick.{Quick, quickly, stays_of, got_of, gone_of, put_of, only_of, both_of, cell_of, stored_of, immediate_on_of, instruction_on_of, word_on_of, cell_word_of, branched_of, instruction_of, other_word_of, quick_of}
 use Rattle.sh_core.specs.Quick.{core_in}
 use Rattle.sh_core.proofs.Plain.{value_plain, seen_plain, write_plain}
+use Rattle.refusal.specs.declared.Refusal.{Refusal}
 
 -- what a decoded word does, before the cycle's (d) and (e)
-unfoldable pub done_of : State → Decoded → Happened
-done_of s (Listed i) = happened false (execute_of s i)
-done_of s (Refused why) = happened true s
+unfoldable pub done_of : State → Result Instruction Refusal → Happened
+done_of s (Ok i) = happened false (execute_of s i)
+done_of s (Err why) = happened true s
 
 -- a quick word's outcome in a machine
 abbrev pub inside : Machine → Quick → State
@@ -109,16 +108,16 @@ module _ (m : Machine) (c : Core) (l : List ℕ) (x : ℕ) (e : askable_of (targ
   immediate_right Andim i = both_right m c l (target_of l x) e Operation.And i
 
   -- a word that is one of them
-  On : Decoded → Type 0
+  On : Result Instruction Refusal → Type 0
   On d = done_of (state (core_in m c) l) d ≡ happened false (inside m (word_on_of c l (target_of l x) d))
 
-  on : (i : Instruction) → Right i → On (Listed i)
+  on : (i : Instruction) → Right i → On (Ok i)
   unfolding Right On done_of word_on_of
   on i p = ap (λ (s : State). happened false s) p
 
 -- Words on no cell.
 module _ (m : Machine) (c : Core) (l : List ℕ) where
-  Goes : Decoded → Type 0
+  Goes : Result Instruction Refusal → Type 0
   Goes d = (other_word_of c d).went ≡ true → done_of (state (core_in m c) l) d ≡ happened false (inside m (quickly (other_word_of c d) l))
 
   pick_core : (b : Bool) (x y : ℕ) → pick b (set_pc (core_in m c) x) (set_pc (core_in m c) y) ≡ core_in m (pick b (gone_of c x) (gone_of c y))
@@ -133,38 +132,38 @@ module _ (m : Machine) (c : Core) (l : List ℕ) where
   unfolding stays_of
   stays_never e = never e
 
-  other_right : (d : Decoded) → Goes d
+  other_right : (d : Result Instruction Refusal) → Goes d
   unfolding Goes done_of other_word_of instruction_of execute_of shr_of onward_of core_in set_pc set_cy set_ac
-  other_right (Refused why) = stays_never
-  other_right (Listed (Accumulator o x)) = stays_never
-  other_right (Listed (Memory o x)) = stays_never
-  other_right (Listed (Lda x)) = stays_never
-  other_right (Listed (Sta x)) = stays_never
-  other_right (Listed (Immediate o x i)) = stays_never
-  other_right (Listed (Ldi x i)) = stays_never
-  other_right (Listed (Branch k t)) = λ _. ap (λ (n : Machine). happened false (state n l)) (branch_right k t)
-  other_right (Listed (Call t)) = stays_never
-  other_right (Listed (Daa x)) = stays_never
-  other_right (Listed (Das x)) = stays_never
-  other_right (Listed (Rtnw h v)) = stays_never
-  other_right (Listed Rtni) = stays_never
-  other_right (Listed Halt) = stays_never
-  other_right (Listed Stop) = stays_never
-  other_right (Listed (Jmp t)) = λ _. ap (λ (n : Machine). happened false (state n l)) (gone_core m c t)
-  other_right (Listed Shr) = λ _. ap (λ (n : Machine). happened false (state n l)) (took_core m c (shifted_right_of c.ac))
-  other_right (Listed Tjmp) = stays_never
-  other_right (Listed Nop) = λ _. ap (λ (n : Machine). happened false (state n l)) (gone_core m c (next_of c.pc))
+  other_right (Err why) = stays_never
+  other_right (Ok (Accumulator o x)) = stays_never
+  other_right (Ok (Memory o x)) = stays_never
+  other_right (Ok (Lda x)) = stays_never
+  other_right (Ok (Sta x)) = stays_never
+  other_right (Ok (Immediate o x i)) = stays_never
+  other_right (Ok (Ldi x i)) = stays_never
+  other_right (Ok (Branch k t)) = λ _. ap (λ (n : Machine). happened false (state n l)) (branch_right k t)
+  other_right (Ok (Call t)) = stays_never
+  other_right (Ok (Daa x)) = stays_never
+  other_right (Ok (Das x)) = stays_never
+  other_right (Ok (Rtnw h v)) = stays_never
+  other_right (Ok Rtni) = stays_never
+  other_right (Ok Halt) = stays_never
+  other_right (Ok Stop) = stays_never
+  other_right (Ok (Jmp t)) = λ _. ap (λ (n : Machine). happened false (state n l)) (gone_core m c t)
+  other_right (Ok Shr) = λ _. ap (λ (n : Machine). happened false (state n l)) (took_core m c (shifted_right_of c.ac))
+  other_right (Ok Tjmp) = stays_never
+  other_right (Ok Nop) = λ _. ap (λ (n : Machine). happened false (state n l)) (gone_core m c (next_of c.pc))
 
 -- What a word below $8000 is read as.
 pub low_word : (w : ℕ) → w < 0x4000 → decode_of w ≡ pick (ltb (w / 2048) 7) (accumulator_of w) (transfer_of w)
 unfolding decode_of
-low_word w h = by_lt (λ (d : Decoded). d ≡ pick (ltb (w / 2048) 7) (accumulator_of w) (transfer_of w)) (w / 2048) 7 _ _ (λ k. rw (lt-ltb (w / 2048) 7 k)) (λ k. rw (le-ltb (w / 2048) 7 k, eq-eqb (w / 2048) 7 (omega arith)))
+low_word w h = by_lt (λ (d : Result Instruction Refusal). d ≡ pick (ltb (w / 2048) 7) (accumulator_of w) (transfer_of w)) (w / 2048) 7 _ _ (λ k. rw (lt-ltb (w / 2048) 7 k)) (λ k. rw (le-ltb (w / 2048) 7 k, eq-eqb (w / 2048) 7 (omega arith)))
 
-pub middle_word : (w : ℕ) → 0x4000 ≤ w → w < 0x8000 → decode_of w ≡ pick (ltb (w / 2048) 15) (Listed (Immediate (immediate_of (w / 2048)) (w % 128) (w / 128 % 16))) (Listed (Ldi (w % 128) (w / 128 % 16)))
+pub middle_word : (w : ℕ) → 0x4000 ≤ w → w < 0x8000 → decode_of w ≡ pick (ltb (w / 2048) 15) (Ok (Immediate (immediate_of (w / 2048)) (w % 128) (w / 128 % 16))) (Ok (Ldi (w % 128) (w / 128 % 16)))
 unfolding decode_of
 middle_word w g h =
     rw (le-ltb (w / 2048) 7 (omega arith), ne_eqb (w / 2048) 7 (omega arith))
-    (by_lt (λ (d : Decoded). d ≡ pick (ltb (w / 2048) 15) (Listed (Immediate (immediate_of (w / 2048)) (w % 128) (w / 128 % 16))) (Listed (Ldi (w % 128) (w / 128 % 16)))) (w / 2048) 15 _ _ (λ k. rw (lt-ltb (w / 2048) 15 k)) (λ k. rw (le-ltb (w / 2048) 15 k, eq-eqb (w / 2048) 15 (omega arith))))
+    (by_lt (λ (d : Result Instruction Refusal). d ≡ pick (ltb (w / 2048) 15) (Ok (Immediate (immediate_of (w / 2048)) (w % 128) (w / 128 % 16))) (Ok (Ldi (w % 128) (w / 128 % 16)))) (w / 2048) 15 _ _ (λ k. rw (lt-ltb (w / 2048) 15 k)) (λ k. rw (le-ltb (w / 2048) 15 k, eq-eqb (w / 2048) 15 (omega arith))))
 
 module _ (m : Machine) (c : Core) (l : List ℕ) (w : ℕ) where
   Quickly : Quick → Type 0

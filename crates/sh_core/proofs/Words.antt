@@ -1,31 +1,27 @@
 -- What the words of each arm of the dispatch are read as, and so what they do.
-use mathlib.Core.Path.{◌≡◌, ◌∙◌, refl, ap}
+use Rattle.std.specs.Prelude.{Err, Ok, Result}
+use mathlib.Core.Path.{◌≡◌, ◌∙◌, refl}
 use mathlib.Core.Bool.{true, false}
 use mathlib.Core.List.{List}
-use Prim.Native.Nat.{ℕ, ◌+◌, ◌/◌, ◌%◌, ◌<◌, ◌≤◌}
+use Prim.Native.Nat.{ℕ, ◌/◌, ◌%◌, ◌<◌, ◌≤◌}
 use native.Mathlib.Omega.{arith}
 use lib.Dec.{ltb, eqb}
 use borrow.Author.Tests.{le-ltb, eq-eqb, ne_eqb}
 use Rattle.lent.specs.Lent.{pick}
 use Rattle.lent.proofs.Laws.{by_choice, by_eq}
-use Rattle.refusal.specs.declared.Refusal.TheVariants as Refusal
-use Rattle.word.specs.declared.Decoded.{Decoded}
-use Rattle.word.specs.declared.Decoded.TheVariants.{Listed, Refused}
 use Rattle.word.specs.declared.Instruction.TheVariants.{Accumulator, Memory, Jmp}
-use Rattle.word.specs.declared.Instruction.TheVariants as Instruction
 use Rattle.word.specs.Codes.{operation_of, immediate_of, condition_of}
 use Rattle.word.specs.Word.{decode_of, accumulator_of, transfer_of, control_of}
 use Rattle.alu.specs.Alu.{shifted_right_of}
 use Rattle.sh_execute.specs.Execute.{next_of}
 use Rattle.sh_core.specs.declared.Core.{Core}
 use Rattle.sh_core.specs.Quick.{Quick, quickly, stays_of, got_of, gone_of, only_of, both_of, cell_of, stored_of, immediate_on_of, instruction_on_of, word_on_of, branched_of, instruction_of, other_word_of}
-
-pub quickly_at : {c d : Core} {l : List ℕ} → c ≡ d → quickly c l ≡ quickly d l
-quickly_at {l = l} p = ap (λ (k : Core). quickly k l) p
+use Rattle.refusal.specs.declared.Refusal.{Refusal}
+use Rattle.word.specs.declared.Instruction.{Instruction}
 
 -- Words below $4000, by their first six bits.
 module _ (w n : ℕ) (e : w / 1024 ≡ n) where
-  pub accumulator_word : ltb (n / 2) 7 ≡ true → decode_of w ≡ pick (eqb (n % 2) 1) (Listed (Memory (operation_of (n / 2)) (w % 1024))) (Listed (Accumulator (operation_of (n / 2)) (w % 1024)))
+  pub accumulator_word : ltb (n / 2) 7 ≡ true → decode_of w ≡ pick (eqb (n % 2) 1) (Ok (Memory (operation_of (n / 2)) (w % 1024))) (Ok (Accumulator (operation_of (n / 2)) (w % 1024)))
   unfolding decode_of accumulator_of
   accumulator_word h = let k : w / 2048 ≡ n / 2 = omega arith in rw (k, h, e)
 
@@ -69,12 +65,12 @@ module _ (c : Core) (w : ℕ) where
       rw (le-ltb (w / 2048) 7 (omega arith), ne_eqb (w / 2048) 7 (omega arith), le-ltb (w / 2048) 15 (omega arith), ne_eqb (w / 2048) 15 (omega arith), le-ltb (w / 2048) 24 (omega arith), ne_eqb (w / 2048) 24 (omega arith), k, p)
 
   -- past the branches: CALL, JMP, and what is listed of the rest
-  pub past : 24 ≤ w / 2048 → decode_of w ≡ pick (eqb (w / 2048) 24) (Listed (Instruction.Call (w % 2048))) (pick (eqb (w / 4096) 14) (Listed (Jmp (w % 4096))) (control_of w))
+  pub past : 24 ≤ w / 2048 → decode_of w ≡ pick (eqb (w / 2048) 24) (Ok (Instruction.Call (w % 2048))) (pick (eqb (w / 4096) 14) (Ok (Jmp (w % 4096))) (control_of w))
   unfolding decode_of
   past h =
       rw (le-ltb (w / 2048) 7 (omega arith), ne_eqb (w / 2048) 7 (omega arith), le-ltb (w / 2048) 15 (omega arith), ne_eqb (w / 2048) 15 (omega arith), le-ltb (w / 2048) 24 h)
 
-  high : 30 ≤ w / 2048 → decode_of w ≡ pick (eqb w 0xF000) (Listed Instruction.Shr) (pick (eqb w 0xF7FF) (Listed Instruction.Tjmp) (pick (eqb w 0xFFFF) (Listed Instruction.Nop) (Refused (Refusal.UnlistedWord w))))
+  high : 30 ≤ w / 2048 → decode_of w ≡ pick (eqb w 0xF000) (Ok Instruction.Shr) (pick (eqb w 0xF7FF) (Ok Instruction.Tjmp) (pick (eqb w 0xFFFF) (Ok Instruction.Nop) (Err (Refusal.UnlistedWord w))))
   unfolding control_of
   high h =
       rw (past (omega arith), ne_eqb (w / 2048) 24 (omega arith), ne_eqb (w / 4096) 14 (omega arith), ne_eqb (w / 128) 0x196 (omega arith), ne_eqb (w / 128) 0x19A (omega arith), ne_eqb (w / 256) 0xD0 (omega arith), ne_eqb w 0xD400 (omega arith), ne_eqb w 0xD800 (omega arith), ne_eqb w 0xDC00 (omega arith))
@@ -83,20 +79,20 @@ module _ (c : Core) (w : ℕ) where
   unfolding other_word_of instruction_of
   shr_word e p =
       p ∙ rw (high (omega arith), ne_eqb w 0xFFFF (omega arith))
-      (by_eq (λ (b : Decoded). pick (eqb w 0xF000) (got_of c (shifted_right_of c.ac)) (stays_of c) ≡ other_word_of c b) w 0xF000 _ _ (λ f. rw (eq-eqb w 0xF000 f))
-      (λ n. rw (ne_eqb w 0xF000 n) (by_choice (λ (b : Decoded). stays_of c ≡ other_word_of c b) (eqb w 0xF7FF) _ _ refl refl)))
+      (by_eq (λ (b : Result Instruction Refusal). pick (eqb w 0xF000) (got_of c (shifted_right_of c.ac)) (stays_of c) ≡ other_word_of c b) w 0xF000 _ _ (λ f. rw (eq-eqb w 0xF000 f))
+      (λ n. rw (ne_eqb w 0xF000 n) (by_choice (λ (b : Result Instruction Refusal). stays_of c ≡ other_word_of c b) (eqb w 0xF7FF) _ _ refl refl)))
 
   pub nop_word : {r : Core} → w / 2048 ≡ 31 → r ≡ pick (eqb w 0xFFFF) (gone_of c (next_of c.pc)) (stays_of c) → r ≡ other_word_of c (decode_of w)
   unfolding other_word_of instruction_of
   nop_word e p =
       p ∙ rw (high (omega arith), ne_eqb w 0xF000 (omega arith), ne_eqb w 0xF7FF (omega arith))
-      (by_eq (λ (b : Decoded). pick (eqb w 0xFFFF) (gone_of c (next_of c.pc)) (stays_of c) ≡ other_word_of c b) w 0xFFFF _ _ (λ f. rw (eq-eqb w 0xFFFF f)) (λ n. rw (ne_eqb w 0xFFFF n)))
+      (by_eq (λ (b : Result Instruction Refusal). pick (eqb w 0xFFFF) (gone_of c (next_of c.pc)) (stays_of c) ≡ other_word_of c b) w 0xFFFF _ _ (λ f. rw (eq-eqb w 0xFFFF f)) (λ n. rw (ne_eqb w 0xFFFF n)))
 
   pub stays_word : {r : Core} → 24 ≤ w / 2048 → w / 2048 < 28 → r ≡ stays_of c → r ≡ other_word_of c (decode_of w)
   unfolding other_word_of instruction_of control_of
   stays_word {r = r} h k p =
       p ∙ rw (past h, ne_eqb (w / 4096) 14 (omega arith), ne_eqb w 0xF000 (omega arith), ne_eqb w 0xFFFF (omega arith))
-      (let Same : Decoded → Type 0 = λ b. stays_of c ≡ other_word_of c b in
+      (let Same : Result Instruction Refusal → Type 0 = λ b. stays_of c ≡ other_word_of c b in
       by_choice Same (eqb (w / 2048) 24) _ _ refl
       (by_choice Same (eqb (w / 128) 0x196) _ _ refl
       (by_choice Same (eqb (w / 128) 0x19A) _ _ refl
@@ -105,25 +101,3 @@ module _ (c : Core) (w : ℕ) where
       (by_choice Same (eqb w 0xD800) _ _ refl
       (by_choice Same (eqb w 0xDC00) _ _ refl
       (by_choice Same (eqb w 0xF7FF) _ _ refl refl))))))))
-
--- What is none of an arm's numbers lies past them.
-pub up : {x : ℕ} (k : ℕ) → k ≤ x → (x ≡ k → ⊥) → k + 1 ≤ x
-up k h n = omega arith
-
-pub down : {x : ℕ} (k : ℕ) → x < k + 1 → (x ≡ k → ⊥) → x < k
-down k h n = omega arith
-
-pub no_six_bits : (w : ℕ) → w < 0x4000 → 16 ≤ w / 1024 → ⊥
-no_six_bits w h k = omega arith
-
-pub from_code : (w : ℕ) → 0x4000 ≤ w → 8 ≤ w / 2048
-from_code w h = omega arith
-
-pub no_code : (w : ℕ) → w < 0x8000 → 16 ≤ w / 2048 → ⊥
-no_code w h k = omega arith
-
-pub from_branch : (w : ℕ) → 0x8000 ≤ w → 16 ≤ w / 2048
-from_branch w h = omega arith
-
-pub to_code : (w : ℕ) → w < 0x10000 → w / 2048 < 32
-to_code w h = omega arith

@@ -1,5 +1,5 @@
 -- A word that touches no cell but data, display and scan, on PC, AC and CY alone. `proofs/Right.antt` has that it is the instruction.
-use Rattle.std.specs.Prelude.{ℕ, ◌%◌, Bool, true, false, List, ltb, set}
+use Rattle.std.specs.Prelude.{ℕ, ◌%◌, Bool, true, false, List, ltb, set, Err, Ok, Result}
 use Rattle.std.specs.Int.Bits.{bit_and, bit_or}
 use Rattle.lent.specs.Lent.{pick, at}
 use Rattle.word.specs.declared.Operation.{Operation}
@@ -9,8 +9,6 @@ use Rattle.word.specs.declared.ImmediateOperation.TheVariants.{Adi, Adim, Sbi, S
 use Rattle.word.specs.declared.Condition.{Condition}
 use Rattle.word.specs.declared.Instruction.{Instruction}
 use Rattle.word.specs.declared.Instruction.TheVariants.{Accumulator, Memory, Lda, Sta, Immediate, Ldi, Branch, Call, Daa, Das, Rtnw, Rtni, Halt, Stop, Jmp, Shr, Tjmp, Nop}
-use Rattle.word.specs.declared.Decoded.{Decoded}
-use Rattle.word.specs.declared.Decoded.TheVariants.{Listed, Refused}
 use Rattle.word.specs.Word.{decode_of}
 use Rattle.alu.specs.declared.Sum.{Sum}
 use Rattle.alu.specs.Alu.{calculated_of, loaded_of, shifted_right_of}
@@ -20,6 +18,7 @@ use Rattle.sh_state.specs.Record.{set_pc, set_ac, set_cy}
 use Rattle.sh_cells.specs.Cells.{target_of}
 use Rattle.sh_execute.specs.Execute.{next_of, within_of, taken_of}
 use Rattle.sh_core.specs.declared.Core.{Core}
+use Rattle.refusal.specs.declared.Refusal.{Refusal}
 
 abbrev pub core : ℕ → ℕ → ℕ → Bool → Core
 core pc ac cy went = record { pc = pc; ac = ac; cy = cy; went = went }
@@ -94,9 +93,9 @@ instruction_on_of c l a Shr = quickly (stays_of c) l
 instruction_on_of c l a Tjmp = quickly (stays_of c) l
 instruction_on_of c l a Nop = quickly (stays_of c) l
 
-unfoldable pub word_on_of : Core → List ℕ → ℕ → Decoded → Quick
-word_on_of c l a (Listed i) = instruction_on_of c l a i
-word_on_of c l a (Refused why) = quickly (stays_of c) l
+unfoldable pub word_on_of : Core → List ℕ → ℕ → Result Instruction Refusal → Quick
+word_on_of c l a (Ok i) = instruction_on_of c l a i
+word_on_of c l a (Err why) = quickly (stays_of c) l
 
 -- where the cell that is meant is data, display or scan
 unfoldable pub cell_word_of : Core → List ℕ → ℕ → ℕ → Quick
@@ -126,9 +125,9 @@ instruction_of c Shr = got_of c (shifted_right_of c.ac)
 instruction_of c Tjmp = stays_of c
 instruction_of c Nop = gone_of c (next_of c.pc)
 
-unfoldable pub other_word_of : Core → Decoded → Core
-other_word_of c (Listed i) = instruction_of c i
-other_word_of c (Refused why) = stays_of c
+unfoldable pub other_word_of : Core → Result Instruction Refusal → Core
+other_word_of c (Ok i) = instruction_of c i
+other_word_of c (Err why) = stays_of c
 
 -- a word: below $4000 bbb xxx xxxx means the cell, below $8000 xxx xxxx, else none
 unfoldable pub quick_of : Core → List ℕ → ℕ → Quick

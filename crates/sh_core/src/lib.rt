@@ -96,7 +96,8 @@ fn sta(c: Core, memory: &mut [u8], a: u16, y: u8) -> Core
     put(c, memory, a, alu::loaded(y, c.cy))
 }
 
-#[tactic(auto, unfolding(word::specs::Codes::operation_of))]
+// An arm for each form, here and below, so that each has its operation as a constant: that is quicker (docs/DECISIONS.md).
+#[tactic(auto, using(crate::proofs::Words::only_word, crate::proofs::Words::both_word, crate::proofs::Words::lda_word, crate::proofs::Words::sta_word), unfolding(word::specs::Codes::operation_of))]
 fn with_ac(c: Core, memory: &mut [u8], w: u16, a: u16) -> Core
     requires { w < 0x4000 }
     ensures { quickly result memory.new ≡ word_on_of c memory.old a (decode_of w) }
@@ -122,7 +123,7 @@ fn with_ac(c: Core, memory: &mut [u8], w: u16, a: u16) -> Core
     }
 }
 
-#[tactic(auto, unfolding(word::specs::Codes::immediate_of, crate::specs::Quick::immediate_on_of))]
+#[tactic(auto, using(crate::proofs::Words::immediate_word, crate::proofs::Words::ldi_word), unfolding(word::specs::Codes::immediate_of, crate::specs::Quick::immediate_on_of))]
 fn with_immediate(c: Core, memory: &mut [u8], w: u16, a: u16) -> Core
     requires { (0x4000 ≤ w) × (w < 0x8000) }
     ensures { quickly result memory.new ≡ word_on_of c memory.old a (decode_of w) }
@@ -193,7 +194,7 @@ fn nop(c: Core, w: u16) -> Core
     stays(c)
 }
 
-#[tactic(auto, unfolding(word::specs::Codes::condition_of))]
+#[tactic(auto, using(crate::proofs::Words::branch_word, crate::proofs::Words::jmp_word, crate::proofs::Words::shr_word, crate::proofs::Words::nop_word, crate::proofs::Words::stays_word), unfolding(word::specs::Codes::condition_of))]
 fn others(c: Core, w: u16) -> Core
     requires { 0x8000 ≤ w }
     ensures { result ≡ other_word_of c (decode_of w) }
@@ -207,8 +208,7 @@ fn others(c: Core, w: u16) -> Core
         21 => branch(c, Condition::Ba1, w),
         22 => branch(c, Condition::Ba2, w),
         23 => branch(c, Condition::Ba3, w),
-        28 => gone(c, w % 4096),
-        29 => gone(c, w % 4096),
+        28 | 29 => gone(c, w % 4096),
         30 => shr(c, w),
         31 => nop(c, w),
         _ => stays(c),

@@ -1,4 +1,5 @@
 -- A cycle keeps a well-formed machine well formed, whatever the program.
+use Rattle.std.specs.Prelude.{Err, Ok, Result}
 use mathlib.Core.Path.{◌≡◌, refl}
 use mathlib.Core.List.{List}
 use Prim.Native.Nat.{ℕ, ◌<◌}
@@ -6,8 +7,6 @@ use native.Mathlib.Omega.{arith}
 use lib.ListN.{set}
 use Rattle.lent.specs.Lent.{at}
 use Rattle.lent.proofs.Laws.{by_choice, by_eq}
-use Rattle.word.specs.declared.Decoded.{Decoded}
-use Rattle.word.specs.declared.Decoded.TheVariants.{Listed, Refused}
 use Rattle.word.specs.Word.{decode_of}
 use Rattle.word.proofs.RoundTrip.{encode_decode}
 use Rattle.sh_state.specs.declared.machine.Machine.{Machine}
@@ -22,6 +21,8 @@ use Rattle.sh_timers.proofs.Kept.{MovedFit, requested_keeps, clocked_keeps}
 use Rattle.sh_interrupts.proofs.Kept.{interrupted_keeps}
 use Rattle.sh_execute.proofs.Kept.{execute_keeps}
 use Rattle.sh_cycle.specs.Cycle.{Happened, moved_of, read_taken_of, woken_of, word_in_of, landed_of, clock_of, finished_of, executed_of, instructed_of, interrupt_cycle_of, awake_cycle_of, asleep_cycle_of, cycle_due_of, cycle_of}
+use Rattle.refusal.specs.declared.Refusal.{Refusal}
+use Rattle.word.specs.declared.Instruction.{Instruction}
 
 pub moved_keeps : {l : List ℕ} {r : Moved} → MovedFit l r → Fit (moved_of l r)
 moved_keeps {l} {r} f = requested_keeps f.fit r.requests f.requests
@@ -65,10 +66,10 @@ finished_keeps p start f = moved_keeps (clocked_keeps (landed_in_keeps f p start
 
 module _ (p : List ℕ) {s : State} (f : Fit s) where
   -- an unlisted word leaves the state
-  instructed_keeps : (w : ℕ) (d : Decoded) → decode_of w ≡ d → Fit (instructed_of p s d).after
+  instructed_keeps : (w : ℕ) (d : Result Instruction Refusal) → decode_of w ≡ d → Fit (instructed_of p s d).after
   unfolding instructed_of executed_of
-  instructed_keeps w (Listed i) e = finished_keeps p s.machine (execute_keeps i (encode_decode w i e).0 (woken_keeps f))
-  instructed_keeps w (Refused why) e = f
+  instructed_keeps w (Ok i) e = finished_keeps p s.machine (execute_keeps i (encode_decode w i e).0 (woken_keeps f))
+  instructed_keeps w (Err why) e = f
 
   awake_keeps : (due : ℕ) → Fit (awake_cycle_of p s due).after
   unfolding awake_cycle_of interrupt_cycle_of

@@ -1,8 +1,6 @@
 -- One cycle (01, "Events": Cycle, (a) to (e)).
-use Rattle.std.specs.Prelude.{ℕ, ◌/◌, ◌%◌, Bool, true, false, List, eqb, set}
+use Rattle.std.specs.Prelude.{ℕ, ◌/◌, ◌%◌, Bool, true, false, List, eqb, set, Err, Ok, Result}
 use Rattle.lent.specs.Lent.{pick, at}
-use Rattle.word.specs.declared.Decoded.{Decoded}
-use Rattle.word.specs.declared.Decoded.TheVariants.{Listed, Refused}
 use Rattle.word.specs.declared.Instruction.{Instruction}
 use Rattle.word.specs.Word.{decode_of}
 use Rattle.sh_state.specs.declared.machine.Machine.{Machine}
@@ -13,6 +11,7 @@ use Rattle.sh_timers.specs.Request.{requested_of}
 use Rattle.sh_timers.specs.Timer0.{clocked_of}
 use Rattle.sh_interrupts.specs.Interrupt.{due_of, awake_of, interrupted_of}
 use Rattle.sh_execute.specs.Execute.{execute_of}
+use Rattle.refusal.specs.declared.Refusal.{Refusal}
 
 -- an event's outcome: stuck before an unlisted word with nothing changed, or done
 pub record Happened : Type 0 where
@@ -56,9 +55,9 @@ unfoldable pub executed_of : List ℕ → State → Instruction → State
 executed_of p s i = finished_of p s.machine (execute_of (state (woken_of s.machine) s.memory) i)
 
 -- the word that is read; an unlisted one is not executed
-unfoldable pub instructed_of : List ℕ → State → Decoded → Happened
-instructed_of p s (Listed i) = happened false (executed_of p s i)
-instructed_of p s (Refused why) = happened true s
+unfoldable pub instructed_of : List ℕ → State → Result Instruction Refusal → Happened
+instructed_of p s (Ok i) = happened false (executed_of p s i)
+instructed_of p s (Err why) = happened true s
 
 -- (b) the first interrupt that is due, then (d) and (e)
 unfoldable pub interrupt_cycle_of : List ℕ → State → ℕ → State

@@ -1,80 +1,57 @@
 // One cycle: wake, interrupt or instruction, pending read, Timer0's clock.
-ghost use Rattle.std.specs.Prelude.{◌≡◌, set, ℕ, ◌/◌, ◌%◌, List, false};
+ghost use Rattle.std.specs.Prelude.{◌≡◌, ℕ, List, false, is_none, unwrap_or};
 ghost use Rattle.sh_state.specs.State.{state};
+ghost use Rattle.sh_state.specs.declared.machine.Machine.{Machine};
 ghost use Rattle.sh_cycle.specs.Cycle.{happened, read_taken_of, woken_of, word_in_of, clock_of, instructed_of, interrupt_cycle_of, awake_cycle_of, asleep_cycle_of, cycle_due_of, cycle_of};
 ghost use Rattle.sh_cycle.specs.Read.{landed_by, finished_by, ended_by};
 ghost use Rattle.sh_execute.specs.Execute.{execute_of};
 ghost use Rattle.lent.specs.Lent.{at};
 ghost use Rattle.word.specs.Word.{decode_of};
 
+use refusal::Refusal;
 use sh_map::map;
 use sh_state::machine::Machine;
 use sh_timers::{request, timer0};
-use word::{Decoded, Instruction};
+use word::Instruction;
 
-// What a cycle did before (d) and (e), and whether it ends in them.
+// What a cycle did before (d) and (e).
 #[derive(Clone, Copy)]
-pub struct Acted {
-    pub stuck: bool,
-    pub ends: bool,
-    pub machine: Machine,
-}
-
-// An event's outcome: stuck before an unlisted word with nothing changed, or done.
-#[derive(Clone, Copy)]
-pub struct Outcome {
-    pub stuck: bool,
-    pub machine: Machine,
+pub enum Acted {
+    // stuck before an unlisted word
+    Stuck,
+    // asleep in STOP, where (d) and (e) do not follow
+    Still(Machine),
+    // all else: (d) and (e) follow
+    Ends(Machine),
 }
 
 #[tactic(auto, unfolding(crate::specs::Cycle::read_taken_of, sh_state::specs::Record::set_pending))]
-fn read_taken(m: Machine) -> Machine
+fn read_taken(mut m: Machine) -> Machine
     ensures { result ≡ read_taken_of m }
 {
-    let mut n = m;
-    n.pending = 0;
-    n.address = 0;
-    n
+    m.pending = 0;
+    m.address = 0;
+    m
 }
 
-#[tactic(auto, unfolding(crate::specs::Cycle::woken_of, crate::specs::Cycle::read_taken_of, sh_state::specs::Record::set_pending, sh_state::specs::Record::set_mode))]
+#[tactic(auto, unfolding(crate::specs::Cycle::woken_of, sh_state::specs::Record::set_mode))]
 fn woken(m: Machine) -> Machine
     ensures { result ≡ woken_of m }
 {
-    let mut n = m;
-    n.pending = 0;
-    n.address = 0;
+    let mut n = read_taken(m);
     n.mode = 0;
     n
 }
 
-fn low_in(memory: &mut [u8], w: u16)
-    ensures { memory.new ≡ set (set memory.old 0x1A (w % 16)) 0x1B (w / 16 % 16) }
-{
-    map::store(memory, 0x1A, (w % 16) as u8);
-    map::store(memory, 0x1B, (w / 16 % 16) as u8);
-}
-
-fn high_in(memory: &mut [u8], w: u16)
-    ensures { memory.new ≡ set (set memory.old 0x1C (w / 256 % 16)) 0x1D (w / 4096 % 16) }
-{
-    map::store(memory, 0x1C, (w / 256 % 16) as u8);
-    map::store(memory, 0x1D, (w / 4096 % 16) as u8);
-}
-
+// A word in $01A-$01D, low nibble first.
 #[tactic(auto, unfolding(crate::specs::Cycle::word_in_of))]
 fn word_in(memory: &mut [u8], w: u16)
     ensures { memory.new ≡ word_in_of memory.old w }
 {
-    low_in(memory, w);
-    high_in(memory, w);
-}
-
-fn word_from(program: &[u16], a: u16, memory: &mut [u8])
-    ensures { memory.new ≡ word_in_of memory.old (at program.now a) }
-{
-    let w = lent::fetch(program, a as usize);
-    word_in(memory, w);
+    map::store(memory, 0x1A, (w % 16) as u8);
+    map::store(memory, 0x1B, (w / 16 % 16) as u8);
+    map::store(memory, 0x1C, (w / 256 % 16) as u8);
+    map::store(memory, 0x1D, (w / 4096 % 16) as u8);
 }
 
 // (d)
@@ -83,7 +60,7 @@ fn landed(program: &[u16], pending: u8, address: u16, memory: &mut [u8])
     ensures { memory.new ≡ landed_by program.now pending address memory.old }
 {
     if pending == 1 {
-        word_from(program, address, memory);
+        word_in(memory, lent::peek(program, address as usize));
     }
 }
 
@@ -106,19 +83,14 @@ fn finished(program: &[u16], pending: u8, address: u16, m: Machine, memory: &mut
 }
 
 // (d) and (e) after what the cycle did, where it ends in them
-fn ended(program: &[u16], pending: u8, address: u16, a: Acted, memory: &mut [u8]) -> Outcome
-    ensures { happened result.stuck (state result.machine memory.new) ≡ ended_by program.now pending address a.ends a.stuck (state a.machine memory.old) }
+#[tactic(auto, unfolding(crate::specs::Read::ended_by))]
+fn ended(program: &[u16], pending: u8, address: u16, a: Acted, memory: &mut [u8]) -> Option<Machine>
+    ensures { (m : Machine) → happened (is_none result) (state (unwrap_or result m) memory.new) ≡ ended_by program.now pending address a (state m memory.old) }
 {
-    let n = a.machine;
-    if a.ends {
-        return Outcome {
-            stuck: false,
-            machine: finished(program, pending, address, n, memory),
-        };
-    }
-    Outcome {
-        stuck: a.stuck,
-        machine: n,
+    match a {
+        Acted::Stuck => None,
+        Acted::Still(n) => Some(n),
+        Acted::Ends(n) => Some(finished(program, pending, address, n, memory)),
     }
 }
 
@@ -130,44 +102,32 @@ fn executed(m: Machine, memory: &mut [u8], i: Instruction) -> Machine
 }
 
 #[tactic(auto, unfolding(crate::specs::Cycle::instructed_of, crate::specs::Read::ended_by))]
-fn instructed(m: Machine, memory: &mut [u8], d: Decoded) -> Acted
-    ensures { (p : List ℕ) → ended_by p m.pending m.address result.ends result.stuck (state result.machine memory.new) ≡ instructed_of p (state m memory.old) d }
+fn instructed(m: Machine, memory: &mut [u8], d: Result<Instruction, Refusal>) -> Acted
+    ensures { (p : List ℕ) → ended_by p m.pending m.address result (state m memory.new) ≡ instructed_of p (state m memory.old) d }
 {
-    let Decoded::Listed(i) = d else {
-        return Acted {
-            stuck: true,
-            ends: false,
-            machine: m,
-        };
+    let Ok(i) = d else {
+        return Acted::Stuck;
     };
-    Acted {
-        stuck: false,
-        ends: true,
-        machine: executed(m, memory, i),
-    }
+    Acted::Ends(executed(m, memory, i))
 }
 
 fn instruction_cycle(program: &[u16], m: Machine, memory: &mut [u8]) -> Acted
-    ensures { ended_by program.now m.pending m.address result.ends result.stuck (state result.machine memory.new) ≡ instructed_of program.now (state m memory.old) (decode_of (at program.now m.pc)) }
+    ensures { ended_by program.now m.pending m.address result (state m memory.new) ≡ instructed_of program.now (state m memory.old) (decode_of (at program.now m.pc)) }
 {
     let pc = m.pc;
-    instructed(m, memory, word::decode(lent::fetch(program, pc as usize)))
+    instructed(m, memory, word::decode(lent::peek(program, pc as usize)))
 }
 
 // (b)
 fn interrupt_cycle(m: Machine, memory: &mut [u8], due: u8) -> Acted
-    ensures { (p : List ℕ) → ended_by p m.pending m.address result.ends result.stuck (state result.machine memory.new) ≡ happened false (interrupt_cycle_of p (state m memory.old) due) }
+    ensures { (p : List ℕ) → ended_by p m.pending m.address result (state m memory.new) ≡ happened false (interrupt_cycle_of p (state m memory.old) due) }
 {
-    Acted {
-        stuck: false,
-        ends: true,
-        machine: sh_interrupts::interrupted(woken(m), memory, due),
-    }
+    Acted::Ends(sh_interrupts::interrupted(woken(m), memory, due))
 }
 
 #[tactic(auto, unfolding(crate::specs::Cycle::awake_cycle_of))]
 fn awake_cycle(program: &[u16], m: Machine, memory: &mut [u8], due: u8) -> Acted
-    ensures { ended_by program.now m.pending m.address result.ends result.stuck (state result.machine memory.new) ≡ awake_cycle_of program.now (state m memory.old) due }
+    ensures { ended_by program.now m.pending m.address result (state m memory.new) ≡ awake_cycle_of program.now (state m memory.old) due }
 {
     if due == 0 {
         return instruction_cycle(program, m, memory);
@@ -175,26 +135,19 @@ fn awake_cycle(program: &[u16], m: Machine, memory: &mut [u8], due: u8) -> Acted
     interrupt_cycle(m, memory, due)
 }
 
+#[tactic(auto, unfolding(crate::specs::Cycle::asleep_cycle_of, crate::specs::Cycle::finished_of, crate::specs::Cycle::landed_of, crate::specs::Read::ended_by, crate::specs::Read::finished_by, crate::specs::Read::landed_by))]
 fn asleep_cycle(m: Machine) -> Acted
-    ensures { (p l : List ℕ) → ended_by p m.pending m.address result.ends result.stuck (state result.machine l) ≡ happened false (asleep_cycle_of p (state m l)) }
+    ensures { (p l : List ℕ) → ended_by p m.pending m.address result (state m l) ≡ happened false (asleep_cycle_of p (state m l)) }
 {
     if m.mode == 1 {
-        return Acted {
-            stuck: false,
-            ends: true,
-            machine: read_taken(m),
-        };
+        return Acted::Ends(read_taken(m));
     }
-    Acted {
-        stuck: false,
-        ends: false,
-        machine: m,
-    }
+    Acted::Still(m)
 }
 
 #[tactic(auto, unfolding(crate::specs::Cycle::cycle_due_of))]
 fn cycle_due(program: &[u16], m: Machine, memory: &mut [u8], due: u8) -> Acted
-    ensures { ended_by program.now m.pending m.address result.ends result.stuck (state result.machine memory.new) ≡ cycle_due_of program.now (state m memory.old) due }
+    ensures { ended_by program.now m.pending m.address result (state m memory.new) ≡ cycle_due_of program.now (state m memory.old) due }
 {
     if sh_interrupts::awake(m.mode, due) {
         return awake_cycle(program, m, memory, due);
@@ -202,10 +155,10 @@ fn cycle_due(program: &[u16], m: Machine, memory: &mut [u8], due: u8) -> Acted
     asleep_cycle(m)
 }
 
-// One cycle.
+// One cycle: the machine after it, or none before an unlisted word, where nothing changes.
 #[tactic(auto, unfolding(crate::specs::Cycle::cycle_of))]
-pub fn cycle(program: &[u16], m: Machine, memory: &mut [u8]) -> Outcome
-    ensures { happened result.stuck (state result.machine memory.new) ≡ cycle_of program.now (state m memory.old) }
+pub fn cycle(program: &[u16], m: Machine, memory: &mut [u8]) -> Option<Machine>
+    ensures { happened (is_none result) (state (unwrap_or result m) memory.new) ≡ cycle_of program.now (state m memory.old) }
 {
     let due = sh_interrupts::due(memory);
     let a = cycle_due(program, m, memory, due);

@@ -1,4 +1,5 @@
 -- Each event keeps a well-formed machine well formed, whatever the program and whatever the byte.
+use Rattle.std.specs.Prelude.{Ok}
 use mathlib.Core.Path.{◌≡◌}
 use mathlib.Core.List.{List}
 use Prim.Native.Nat.{ℕ, ◌/◌, ◌%◌, ◌<◌}
@@ -6,7 +7,6 @@ use native.Mathlib.Omega.{arith}
 use lib.Seq.{get_or-set_other}
 use Rattle.lent.specs.Lent.{at}
 use Rattle.lent.proofs.Laws.{by_choice, by_eq}
-use Rattle.sh_rules.specs.declared.judge.Judged.TheVariants.{Fine}
 use Rattle.sh_rules.specs.Judge.{state_judged}
 use Rattle.sh_state.specs.Record.{set_pin_a, set_pin_b, set_pin_c, set_pin_d}
 use Rattle.sh_state.specs.State.{State, state}
@@ -99,5 +99,5 @@ unfolding event_of
 event_keeps p s e f = by_eq (λ (h : Happened). Fit h.after) e 0x00 _ _ (λ t. cycle_keeps p f) (λ t. other_keeps f e)
 
 -- the same in the words by which a call turns a machine down
-pub event_judged : (p : List ℕ) (s : State) (e : ℕ) → state_judged s ≡ Fine → state_judged (event_of p s e).after ≡ Fine
+pub event_judged : (p : List ℕ) (s : State) (e : ℕ) → state_judged s ≡ Ok tt → state_judged (event_of p s e).after ≡ Ok tt
 event_judged p s e h = judged_of (event_keeps p s e (fit_of s h))

@@ -1,5 +1,4 @@
 -- An event that is stuck before an unlisted word has changed nothing: only the cycle can be.
-use mathlib.Core.Path.{◌≡◌}
 use mathlib.Core.List.{List}
 use Prim.Native.Nat.{ℕ}
 use lib.Dec.{eqb}

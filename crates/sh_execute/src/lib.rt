@@ -2,9 +2,10 @@
 #![tactic(auto)]
 
 ghost use Rattle.std.specs.Prelude.{◌≡◌};
-ghost use Rattle.sh_state.specs.Record.{set_pc, set_ac, set_cy, set_mode};
 ghost use Rattle.sh_state.specs.State.{state};
-ghost use Rattle.sh_execute.specs.Execute.{next_of, within_of, onward_of, took_of, put_of, accumulated_of, stored_of, load_of, accumulator_form_of, memory_form_of, lda_of, sta_of, ldi_of, with_immediate_of, stored_immediate_of, immediate_form_of, daa_of, das_of, taken_of, branch_if_of, branch_of, call_of, rtnw_of, rtni_of, rest_of, shr_of, tjmp_of, execute_of};
+ghost use Rattle.alu.specs.declared.Sum.{Sum};
+ghost use Rattle.sh_cells.specs.Cells.{read_of, target_of};
+ghost use Rattle.sh_execute.specs.Execute.{next_of, within_of, onward_of, took_of, put_of, accumulated_of, stored_of, load_of, accumulator_form_of, memory_form_of, lda_of, sta_of, ldi_of, with_immediate_of, stored_immediate_of, immediate_form_of, daa_of, das_of, taken_of, branch_of, call_of, rtnw_of, rtni_of, rest_of, shr_of, tjmp_of, execute_of};
 
 use alu::Sum;
 use sh_map::map;
@@ -28,16 +29,6 @@ pub fn within(pc: u16, t: u16) -> u16
     pc / 2048 * 2048 + t % 2048
 }
 
-#[tactic(auto, unfolding(sh_state::specs::Record::set_ac, sh_state::specs::Record::set_cy))]
-fn with_ac_cy(m: Machine, ac: u8, cy: u8) -> Machine
-    ensures { result ≡ set_cy (set_ac m ac) cy }
-{
-    let mut n = m;
-    n.ac = ac;
-    n.cy = cy;
-    n
-}
-
 #[tactic(auto, unfolding(crate::specs::Execute::onward_of))]
 fn onward(m: Machine) -> Machine
     ensures { result ≡ onward_of m }
@@ -46,11 +37,13 @@ fn onward(m: Machine) -> Machine
 }
 
 // AC and CY take a result, and PC goes on.
-#[tactic(auto, unfolding(crate::specs::Execute::took_of))]
-fn took(m: Machine, r: Sum) -> Machine
+#[tactic(auto, unfolding(crate::specs::Execute::took_of, sh_state::specs::Record::set_ac, sh_state::specs::Record::set_cy))]
+fn took(mut m: Machine, r: Sum) -> Machine
     ensures { result ≡ took_of m r }
 {
-    onward(with_ac_cy(m, r.value, r.carry))
+    m.ac = r.value;
+    m.cy = r.carry;
+    onward(m)
 }
 
 // A result taken by AC and CY and written to a cell too.
@@ -156,24 +149,30 @@ fn immediate_form(m: Machine, memory: &mut [u8], o: ImmediateOperation, x: u16, 
     }
 }
 
-#[tactic(auto, unfolding(crate::specs::Execute::daa_of, sh_cells::specs::Cells::read_of))]
+// A cell read and adjusted by its value and CY; AC and the cell take the result.
+#[tactic(auto, unfolding(sh_cells::specs::Cells::read_of))]
+fn adjusted<F: Fn(u8, u8) -> Sum>(m: Machine, memory: &mut [u8], x: u16, adjust: F) -> Machine
+    requires { F.IsAlwaysCallable adjust }
+    ensures { (r : Sum) × F.post adjust (read_of (state m memory.old) (target_of memory.old x)).value m.cy r × (state result memory.new ≡ put_of (state (read_of (state m memory.old) (target_of memory.old x)).machine memory.old) (target_of memory.old x) r) }
+{
+    let a = sh_cells::target(memory, x);
+    let v = sh_cells::value(m, memory, a);
+    let n = sh_cells::seen(m, memory, a);
+    put(n, memory, a, adjust(v, m.cy))
+}
+
+#[tactic(auto, unfolding(crate::specs::Execute::daa_of))]
 fn daa(m: Machine, memory: &mut [u8], x: u16) -> Machine
     ensures { state result memory.new ≡ daa_of (state m memory.old) x }
 {
-    let a = sh_cells::target(memory, x);
-    let v = sh_cells::value(m, memory, a);
-    let n = sh_cells::seen(m, memory, a);
-    put(n, memory, a, alu::decimal_added(v, m.cy))
+    adjusted(m, memory, x, |v, cy| alu::decimal_added(v, cy))
 }
 
-#[tactic(auto, unfolding(crate::specs::Execute::das_of, sh_cells::specs::Cells::read_of))]
+#[tactic(auto, unfolding(crate::specs::Execute::das_of))]
 fn das(m: Machine, memory: &mut [u8], x: u16) -> Machine
     ensures { state result memory.new ≡ das_of (state m memory.old) x }
 {
-    let a = sh_cells::target(memory, x);
-    let v = sh_cells::value(m, memory, a);
-    let n = sh_cells::seen(m, memory, a);
-    put(n, memory, a, alu::decimal_subtracted(v, m.cy))
+    adjusted(m, memory, x, |v, cy| alu::decimal_subtracted(v, cy))
 }
 
 #[tactic(auto, unfolding(crate::specs::Execute::taken_of))]
@@ -192,27 +191,14 @@ pub fn taken(c: Condition, ac: u8, cy: u8) -> bool
     }
 }
 
-fn gone(m: Machine, t: u16) -> Machine
-    ensures { result ≡ set_pc m (within_of m.pc t) }
-{
-    machine::with_pc(m, within(m.pc, t))
-}
-
-#[tactic(auto, unfolding(crate::specs::Execute::branch_if_of))]
-fn branch_if(m: Machine, yes: bool, t: u16) -> Machine
-    ensures { result ≡ branch_if_of m yes t }
-{
-    if yes {
-        return gone(m, t);
-    }
-    onward(m)
-}
-
-#[tactic(auto, unfolding(crate::specs::Execute::branch_of))]
+#[tactic(auto, unfolding(crate::specs::Execute::branch_of, crate::specs::Execute::branch_if_of))]
 fn branch(m: Machine, c: Condition, t: u16) -> Machine
     ensures { result ≡ branch_of m c t }
 {
-    branch_if(m, taken(c, m.ac, m.cy), t)
+    if taken(c, m.ac, m.cy) {
+        return machine::with_pc(m, within(m.pc, t));
+    }
+    onward(m)
 }
 
 #[tactic(auto, unfolding(crate::specs::Execute::call_of))]
@@ -222,54 +208,33 @@ fn call(m: Machine, t: u16) -> Machine
     machine::with_pc(m.push(machine::entry(m.cy, next(m.pc))), within(m.pc, t))
 }
 
-#[tactic(auto, unfolding(sh_state::specs::Record::set_ac))]
-fn with_ac(m: Machine, ac: u8) -> Machine
-    ensures { result ≡ set_ac m ac }
-{
-    let mut n = m;
-    n.ac = ac;
-    n
-}
-
-#[tactic(auto, unfolding(crate::specs::Execute::rtnw_of))]
+#[tactic(auto, unfolding(crate::specs::Execute::rtnw_of, sh_state::specs::Record::set_ac))]
 fn rtnw(m: Machine, memory: &mut [u8], h: u8, l: u8) -> Machine
     ensures { state result memory.new ≡ rtnw_of (state m memory.old) h l }
 {
     map::store(memory, 0x0E, h);
-    machine::with_pc(with_ac(m.pop(), l), m.newest() % 4096)
+    let mut n = m.pop();
+    n.ac = l;
+    machine::with_pc(n, m.newest() % 4096)
 }
 
-#[tactic(auto, unfolding(sh_state::specs::Record::set_cy))]
-fn with_cy(m: Machine, cy: u8) -> Machine
-    ensures { result ≡ set_cy m cy }
-{
-    let mut n = m;
-    n.cy = cy;
-    n
-}
-
-#[tactic(auto, unfolding(crate::specs::Execute::rtni_of))]
+#[tactic(auto, unfolding(crate::specs::Execute::rtni_of, sh_state::specs::Record::set_cy))]
 fn rtni(m: Machine) -> Machine
     ensures { result ≡ rtni_of m }
 {
     let e = m.newest();
-    machine::with_pc(with_cy(m.pop(), (e / 4096 % 2) as u8), e % 4096)
+    let mut n = m.pop();
+    n.cy = (e / 4096 % 2) as u8;
+    machine::with_pc(n, e % 4096)
 }
 
-#[tactic(auto, unfolding(sh_state::specs::Record::set_mode))]
-fn with_mode(m: Machine, mode: u8) -> Machine
-    ensures { result ≡ set_mode m mode }
-{
-    let mut n = m;
-    n.mode = mode;
-    n
-}
-
-#[tactic(auto, unfolding(crate::specs::Execute::rest_of))]
+#[tactic(auto, unfolding(crate::specs::Execute::rest_of, sh_state::specs::Record::set_mode))]
 fn rest(m: Machine, mode: u8) -> Machine
     ensures { result ≡ rest_of m mode }
 {
-    with_mode(onward(m), mode)
+    let mut n = onward(m);
+    n.mode = mode;
+    n
 }
 
 #[tactic(auto, unfolding(crate::specs::Execute::shr_of))]

@@ -1,10 +1,10 @@
 -- What a record may hold of a frozen nibble, and that freezing and releasing keep it.
 use mathlib.Core.Path.{◌≡◌}
-use Prim.Native.Nat.{ℕ, ◌%◌, ◌<◌}
+use Prim.Native.Nat.{ℕ, ◌<◌}
 use mathlib.Core.Bool.{true}
 use native.Mathlib.Omega.{arith}
 use lib.Dec.{ltb, eqb}
-use borrow.Author.Tests.{ltb-true, eqb-true, lt-ltb, eq-eqb, ne_eqb}
+use borrow.Author.Tests.{ltb-true, eqb-true, lt-ltb, eq-eqb}
 use Rattle.lent.proofs.Laws.{both_true, by_eq}
 use Rattle.sh_halves.specs.declared.Frozen.{Frozen}
 use Rattle.sh_halves.specs.Halves.{released_of, frozen_of, low_of, frozen_fits}

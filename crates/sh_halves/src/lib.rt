@@ -4,7 +4,8 @@
 ghost use Rattle.std.specs.Prelude.{◌≡◌};
 ghost use Rattle.sh_halves.specs.Halves.{released_of, frozen_of, low_of, frozen_fits};
 
-// The low nibble that a read of $005 froze, and the mark, 1, that there is one; both 0 where there is none.
+// The low nibble that a read of $005 froze, and the mark, 1, that there is one; both 0 where there is none. Two bytes and no Option: a
+// record that is read may hold any two, and `fits` judges them as they stand.
 #[derive(Clone, Copy)]
 pub struct Frozen {
     pub nibble: u8,
@@ -35,10 +36,7 @@ pub fn freeze(counter: u8) -> Frozen
 pub fn low(f: Frozen, counter: u8) -> u8
     ensures { result ≡ low_of f counter }
 {
-    if f.mark == 1 {
-        return f.nibble;
-    }
-    counter % 16
+    if f.mark == 1 { f.nibble } else { counter % 16 }
 }
 
 // Whether a record may hold it so: a nibble with the mark 1, or 0 and 0.
@@ -46,8 +44,9 @@ pub fn low(f: Frozen, counter: u8) -> u8
 pub fn fits(f: Frozen) -> bool
     ensures { result ≡ frozen_fits f }
 {
-    if f.mark == 0 {
-        return f.nibble == 0;
+    match f.mark {
+        0 => f.nibble == 0,
+        1 => f.nibble < 16,
+        _ => false,
     }
-    lent::both(f.mark == 1, f.nibble < 16)
 }

@@ -22,29 +22,23 @@ pub fn due(memory: &[u8]) -> u8
 pub fn awake(mode: u8, due: u8) -> bool
     ensures { result ≡ awake_of mode due }
 {
-    if mode == 0 {
-        return true;
+    match mode {
+        0 => true,
+        1 => due != 0,
+        _ => due & 9 != 0,
     }
-    if mode == 1 {
-        return due != 0;
-    }
-    due & 9 != 0
 }
 
 #[tactic(auto, unfolding(crate::specs::Interrupt::vector_of))]
 fn vector(due: u8) -> u16
     ensures { result ≡ vector_of due }
 {
-    if 7 < due {
-        return 0x001;
+    match due {
+        8.. => 0x001,
+        4..=7 => 0x002,
+        2..=3 => 0x003,
+        _ => 0x004,
     }
-    if 3 < due {
-        return 0x002;
-    }
-    if 1 < due {
-        return 0x003;
-    }
-    0x004
 }
 
 #[tactic(auto, unfolding(crate::specs::Interrupt::entered_of))]

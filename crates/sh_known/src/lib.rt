@@ -9,14 +9,5 @@ ghost use Rattle.sh_known.specs.Known.{known_of};
 pub fn known(e: u8) -> bool
     ensures { result ≡ known_of e }
 {
-    if e < 0x04 {
-        return true;
-    }
-    if e == 0x05 {
-        return true;
-    }
-    if e < 0x10 {
-        return false;
-    }
-    e < 0x50
+    matches!(e, 0x00..=0x03 | 0x05 | 0x10..=0x4F)
 }

@@ -1,17 +1,10 @@
--- What a match on a kind leaves, and what lies past the map.
-use mathlib.Core.Path.{◌≡◌, ◌∙◌, ap, sym}
+-- What lies past the map.
+use mathlib.Core.Path.{◌≡◌}
 use Prim.Native.Nat.{ℕ, ◌≤◌}
 use native.Mathlib.Omega.{arith}
 use borrow.Author.Tests.{le-ltb}
-use Rattle.sh_map.specs.declared.map.Kind.{Kind}
 use Rattle.sh_map.specs.declared.map.Kind.TheVariants.{Unmapped}
-use Rattle.sh_map.specs.Map.{kind_of, held_in, held_of, written_in}
-
-pub held_at : {k j : Kind} {r : ℕ} (a : ℕ) → k ≡ j → r ≡ held_in j a → r ≡ held_in k a
-held_at a p q = q ∙ sym (ap (λ (n : Kind). held_in n a) p)
-
-pub written_at : {k j : Kind} {r : ℕ} (a : ℕ) → k ≡ j → r ≡ written_in j a → r ≡ written_in k a
-written_at a p q = q ∙ sym (ap (λ (n : Kind). written_in n a) p)
+use Rattle.sh_map.specs.Map.{kind_of, held_in, held_of}
 
 -- past the map nothing is mapped, and nothing is held
 pub kind_past : (a : ℕ) → 0x378 ≤ a → kind_of a ≡ Unmapped

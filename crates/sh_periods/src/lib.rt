@@ -10,13 +10,12 @@ const BASE_RATIOS: [u8; 4] = [1, 4, 8, 16];
 
 const PERIODS: [u16; 8] = [4096, 1024, 256, 128, 64, 16, 4, 1];
 
-// Timer0's ratio by $002; 1 for pin counting.
+// Timer0's ratio by $002; 1 for pin counting. This and the two below differ in table and index, which is all that their line says.
 #[tactic(auto, unfolding(crate::specs::Periods::ratio_of, crate::specs::Periods::ratios))]
 pub fn ratio(mode: u8) -> u16
     ensures { result ≡ ratio_of mode }
 {
-    let i = (mode % 8) as usize;
-    RATIOS[i]
+    RATIOS[mode as usize % 8]
 }
 
 // The base timer's ratio by $003.
@@ -24,8 +23,7 @@ pub fn ratio(mode: u8) -> u16
 pub fn base_ratio(mode: u8) -> u8
     ensures { result ≡ base_ratio_of mode }
 {
-    let i = (mode % 4) as usize;
-    BASE_RATIOS[i]
+    BASE_RATIOS[mode as usize % 4]
 }
 
 // The watchdog's period by $01E.
@@ -33,6 +31,5 @@ pub fn base_ratio(mode: u8) -> u8
 pub fn period(control: u8) -> u16
     ensures { result ≡ period_of control }
 {
-    let i = (control % 8) as usize;
-    PERIODS[i]
+    PERIODS[control as usize % 8]
 }

@@ -1,28 +1,15 @@
--- What a match on a column or a kind leaves, and what a reset does past the map.
-use mathlib.Core.Path.{◌≡◌, ◌∙◌, refl, ap, sym}
-use Prim.Native.Nat.{ℕ, zero, suc, ◌-◌, ◌≤◌, ◌<◌}
+-- What a pin reset leaves of a register, and what a reset does past the map.
+use mathlib.Core.Path.{◌≡◌, refl, sym}
+use Prim.Native.Nat.{ℕ, zero, suc, ◌≤◌}
 use native.Mathlib.Omega.{arith}
 use lib.Bits.{bit_and, or_zero_r}
 use lib.ListN.{replicate}
 use borrow.Author.Tests.{ne_eqb}
 use Rattle.lent.specs.Lent.{at}
-use Rattle.sh_map.specs.declared.map.Kind.{Kind}
 use Rattle.sh_map.proofs.Laws.{kind_past}
 use Rattle.sh_reset.specs.declared.reset.Column.{Column}
 use Rattle.sh_reset.specs.declared.reset.Column.TheVariants.{Pin, Watchdog}
-use Rattle.sh_reset.specs.Reset.{register_stays, sound_stays, stays_in, rises_of, sets_of, reset_cell_of}
-
-pub register_stays_at : {c d : Column} {r : ℕ} (a : ℕ) → c ≡ d → r ≡ at (register_stays d) a → r ≡ at (register_stays c) a
-register_stays_at a p q = q ∙ sym (ap (λ (n : Column). at (register_stays n) a) p)
-
-pub sound_stays_at : {c d : Column} {r : ℕ} (a : ℕ) → c ≡ d → r ≡ at (sound_stays d) a → r ≡ at (sound_stays c) a
-sound_stays_at a p q = q ∙ sym (ap (λ (n : Column). at (sound_stays n) a) p)
-
-pub stays_at : {k j : Kind} {r : ℕ} (c : Column) (a : ℕ) → k ≡ j → r ≡ stays_in j c a → r ≡ stays_in k c a
-stays_at c a p q = q ∙ sym (ap (λ (n : Kind). stays_in n c a) p)
-
-pub rises_at : {c d : Column} {r : ℕ} (a : ℕ) → c ≡ d → r ≡ rises_of d a → r ≡ rises_of c a
-rises_at a p q = q ∙ sym (ap (λ (n : Column). rises_of n a) p)
+use Rattle.sh_reset.specs.Reset.{register_stays, stays_in, rises_of, sets_of, reset_cell_of}
 
 -- zeros, and 0 past their end
 pub zeros_at : (n a : ℕ) → 0 ≡ at (replicate n 0) a
@@ -33,10 +20,6 @@ zeros_at (suc n) (suc a) = zeros_at n a
 pub pin_register : (a : ℕ) → 0 ≡ at (register_stays Pin) a
 unfolding register_stays
 pin_register a = zeros_at 32 a
-
-pub pin_sound : (a : ℕ) → 0 ≡ at (sound_stays Pin) a
-unfolding sound_stays
-pin_sound a = zeros_at 8 a
 
 rises_past : (c : Column) (a : ℕ) → 0x378 ≤ a → rises_of c a ≡ 0
 unfolding rises_of

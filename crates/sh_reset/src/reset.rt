@@ -1,9 +1,7 @@
 // Resets: by the pin and by the watchdog.
-ghost use Rattle.std.specs.Prelude.{◌≡◌, ◌%◌};
-ghost use Rattle.lent.specs.Lent.{at};
+ghost use Rattle.std.specs.Prelude.{◌≡◌};
 ghost use Rattle.sh_state.specs.State.{state};
-ghost use Rattle.sh_reset.specs.Reset.{register_stays, sound_stays, stays_in, rises_of, sets_of, reset_cell_of, reset_memory_of, pins_of, reset_record_of, reset_of};
-ghost use Rattle.sh_reset.specs.declared.reset.Column.TheVariants.{Pin, Watchdog};
+ghost use Rattle.sh_reset.specs.Reset.{stays_in, sets_of, reset_cell_of, reset_memory_of, reset_record_of, reset_of};
 
 use sh_map::map;
 use sh_map::map::Kind;
@@ -23,94 +21,30 @@ const REGISTER_STAYS: [u8; 32] = [
 
 const SOUND_STAYS: [u8; 8] = [15, 15, 15, 15, 15, 15, 15, 12];
 
-#[tactic(auto, unfolding(crate::specs::Reset::register_stays))]
-fn register_stays_by_watchdog(a: u16) -> u8
-    ensures { result ≡ at (register_stays Watchdog) a }
-{
-    let i = a as usize;
-    if i < 32 {
-        return REGISTER_STAYS[i];
-    }
-    0
-}
-
-fn register_stays(column: Column, a: u16) -> u8
-    ensures { result ≡ at (register_stays column) a }
-{
-    match column {
-        Column::Pin => 0,
-        Column::Watchdog => register_stays_by_watchdog(a),
-    }
-}
-
-#[tactic(auto, unfolding(crate::specs::Reset::sound_stays))]
-fn sound_stays_by_watchdog(a: u16) -> u8
-    ensures { result ≡ at (sound_stays Watchdog) (a % 8) }
-{
-    let i = (a % 8) as usize;
-    SOUND_STAYS[i]
-}
-
-fn sound_stays(column: Column, a: u16) -> u8
-    ensures { result ≡ at (sound_stays column) (a % 8) }
-{
-    match column {
-        Column::Pin => 0,
-        Column::Watchdog => sound_stays_by_watchdog(a),
-    }
-}
-
-#[tactic(auto, unfolding(crate::specs::Reset::stays_in))]
+// The bits that stay at an address: of a register or of sound none by the pin and those of the table by the watchdog; elsewhere all.
+#[tactic(auto, unfolding(crate::specs::Reset::stays_in, crate::specs::Reset::register_stays, crate::specs::Reset::sound_stays))]
 fn stays_in(k: Kind, column: Column, a: u16) -> u8
     ensures { result ≡ stays_in k column a }
 {
-    match k {
-        Kind::Register => register_stays(column, a),
-        Kind::Data => 15,
-        Kind::Display => 15,
-        Kind::Scan => 15,
-        Kind::Sound => sound_stays(column, a),
-        Kind::Unmapped => 15,
+    match (k, column) {
+        (Kind::Register, Column::Pin) | (Kind::Sound, Column::Pin) => 0,
+        (Kind::Register, Column::Watchdog) => lent::peek(&REGISTER_STAYS, a as usize),
+        (Kind::Sound, Column::Watchdog) => lent::peek(&SOUND_STAYS, (a % 8) as usize),
+        _ => 15,
     }
 }
 
-#[tactic(auto, unfolding(crate::specs::Reset::rises_of))]
-fn rises_by_pin(a: u16) -> u8
-    ensures { result ≡ rises_of Pin a }
-{
-    if a == 0x13 {
-        return 4;
-    }
-    0
-}
-
-#[tactic(auto, unfolding(crate::specs::Reset::rises_of))]
-fn rises_by_watchdog(a: u16) -> u8
-    ensures { result ≡ rises_of Watchdog a }
-{
-    if a == 0x1E {
-        return 8;
-    }
-    0
-}
-
-fn rises(column: Column, a: u16) -> u8
-    ensures { result ≡ rises_of column a }
-{
-    match column {
-        Column::Pin => rises_by_pin(a),
-        Column::Watchdog => rises_by_watchdog(a),
-    }
-}
-
-#[tactic(auto, unfolding(crate::specs::Reset::sets_of))]
+// The bits that become 1, and the bonding bits of $00C, which are as the board has them.
+#[tactic(auto, unfolding(crate::specs::Reset::sets_of, crate::specs::Reset::rises_of))]
 fn sets(column: Column, options: u8, a: u16) -> u8
     ensures { result ≡ sets_of column options a }
 {
-    if a == 0x0C {
-        return options / 2 % 4;
+    match (column, a) {
+        (_, 0x0C) => options / 2 % 4,
+        (Column::Pin, 0x13) => 4,
+        (Column::Watchdog, 0x1E) => 8,
+        _ => 0,
     }
-    rises(column, a)
 }
 
 #[tactic(auto, unfolding(crate::specs::Reset::reset_cell_of))]
@@ -120,13 +54,11 @@ fn reset_cell(column: Column, options: u8, a: u16, v: u8) -> u8
     (v & stays_in(map::kind_at(a), column, a)) | sets(column, options, a)
 }
 
+#[tactic(auto, using(crate::proofs::Laws::reset_past))]
 fn reset_cell_at(column: Column, options: u8, i: usize, v: u8) -> u8
     ensures { result ≡ reset_cell_of column options i v }
 {
-    if i < 0x10000 {
-        return reset_cell(column, options, i as u16, v);
-    }
-    v & 15
+    u16::try_from(i).map_or(v & 15, |a| reset_cell(column, options, a, v))
 }
 
 // The cells of a memory after a reset.
@@ -134,30 +66,22 @@ fn reset_cell_at(column: Column, options: u8, i: usize, v: u8) -> u8
 pub fn reset_memory(column: Column, options: u8, memory: &mut [u8])
     ensures { memory.new ≡ reset_memory_of column options memory.old }
 {
-    let mut i: usize = 0;
-    while i < memory.len() {
-        memory[i] = reset_cell_at(column, options, i, memory[i]);
-        i += 1;
+    for (i, v) in memory.iter_mut().enumerate() {
+        *v = reset_cell_at(column, options, i, *v);
     }
 }
 
-#[tactic(auto, unfolding(crate::specs::Reset::pins_of, sh_state::specs::Record::set_pin_a, sh_state::specs::Record::set_pin_b, sh_state::specs::Record::set_pin_c, sh_state::specs::Record::set_pin_d))]
-fn with_pins(m: Machine, pins: Machine) -> Machine
-    ensures { result ≡ pins_of m pins }
-{
-    let mut n = m;
-    n.pina = pins.pina;
-    n.pinb = pins.pinb;
-    n.pinc = pins.pinc;
-    n.pind = pins.pind;
-    n
-}
-
-#[tactic(auto, unfolding(crate::specs::Reset::reset_record_of))]
+#[tactic(auto, unfolding(crate::specs::Reset::reset_record_of, crate::specs::Reset::pins_of, sh_state::specs::Record::set_pin_a, sh_state::specs::Record::set_pin_b, sh_state::specs::Record::set_pin_c, sh_state::specs::Record::set_pin_d))]
 fn reset_record(m: Machine) -> Machine
     ensures { result ≡ reset_record_of m }
 {
-    with_pins(Machine::fresh(m.options), m)
+    Machine {
+        pina: m.pina,
+        pinb: m.pinb,
+        pinc: m.pinc,
+        pind: m.pind,
+        ..Machine::fresh(m.options)
+    }
 }
 
 // A machine after a reset.

@@ -1,4 +1,6 @@
 -- A well-formed machine, rule by rule (01, "What is lent"): what is judged fine is one, and one is judged fine.
+use Rattle.std.specs.Prelude.{Result, Err, None, Ok, Option, Some}
+use Rattle.refusal.specs.declared.Refusal.{Refusal}
 use mathlib.Core.Path.{◌≡◌, ◌∙◌, refl, sym}
 use mathlib.Core.Bool.{Bool, true, false}
 use mathlib.Core.List.{List, [], ◌∷◌}
@@ -13,12 +15,9 @@ use borrow.Author.Tests.{ltb-true, ltb-false, leb-true, eqb-true, eqb-false, lt-
 use Rattle.lent.specs.Lent.{pick, both, at, fails_from}
 use Rattle.lent.proofs.Laws.{both_true, test, by_eq, at_past}
 use Rattle.refusal.specs.declared.Refusal.TheVariants as refusal
-use Rattle.sh_rules.specs.declared.judge.Judged.TheVariants.{Fine, Refused}
 use Rattle.sh_state.specs.declared.machine.Machine.{Machine}
 use Rattle.sh_map.specs.declared.map.Kind.{Kind}
 use Rattle.sh_map.specs.declared.map.Kind.TheVariants.{Register, Data, Display, Scan, Sound, Unmapped}
-use Rattle.lent.specs.declared.Found.{Found}
-use Rattle.lent.specs.declared.Found.TheVariants.{At, Nothing}
 use Rattle.sh_rules.specs.Judge.{cells_judged, memory_judged, record_judged, first_of, state_judged}
 use Rattle.sh_map.specs.Map.{kind_of, register_bits, held_in, held_of}
 use Rattle.sh_periods.specs.Periods.{ratios, ratio_of, base_ratios, base_ratio_of, base_on, periods, period_of}
@@ -94,17 +93,17 @@ period_positive control = ltb-true 0 _ (below_at 8 (λ i. ltb 0 (at periods i)) 
 
 -- What a judgement that turns nothing down says.
 
-unbroken_at : (l : List ℕ) (a i : ℕ) → broken_from l a ≡ Nothing → bit_and (at l i) (held_of (a + i)) ≡ at l i
+unbroken_at : (l : List ℕ) (a i : ℕ) → broken_from l a ≡ None → bit_and (at l i) (held_of (a + i)) ≡ at l i
 unfolding fails_from cell_fits
 unbroken_at [] a i e = refl
 unbroken_at (v ∷ l) a zero e =
     let z : a + 0 ≡ a = omega arith in
-    by_eq (λ f. f ≡ Nothing → bit_and v (held_of (a + 0)) ≡ v) (bit_and v (held_of a)) v _ _ (λ t f. rw z t) (λ t f. let y : ◌≡◌ {A = ℕ} 0 1 = cc in absurd (omega arith)) e
+    by_eq (λ f. f ≡ None → bit_and v (held_of (a + 0)) ≡ v) (bit_and v (held_of a)) v _ _ (λ t f. rw z t) (λ t f. let y : ◌≡◌ {A = ℕ} 0 1 = cc in absurd (omega arith)) e
 unbroken_at (v ∷ l) a (suc i) e =
     let z : a + suc i ≡ a + 1 + i = omega arith in
-    by_eq (λ f. f ≡ Nothing → bit_and (at l i) (held_of (a + suc i)) ≡ at l i) (bit_and v (held_of a)) v _ _ (λ t f. rw z (unbroken_at l (a + 1) i f)) (λ t f. let y : ◌≡◌ {A = ℕ} 0 1 = cc in absurd (omega arith)) e
+    by_eq (λ f. f ≡ None → bit_and (at l i) (held_of (a + suc i)) ≡ at l i) (bit_and v (held_of a)) v _ _ (λ t f. rw z (unbroken_at l (a + 1) i f)) (λ t f. let y : ◌≡◌ {A = ℕ} 0 1 = cc in absurd (omega arith)) e
 
-pub unbroken : (l : List ℕ) (a : ℕ) → ((i : ℕ) → bit_and (at l i) (held_of (a + i)) ≡ at l i) → broken_from l a ≡ Nothing
+pub unbroken : (l : List ℕ) (a : ℕ) → ((i : ℕ) → bit_and (at l i) (held_of (a + i)) ≡ at l i) → broken_from l a ≡ None
 unfolding fails_from cell_fits
 unbroken [] a h = refl
 unbroken (v ∷ l) a h =
@@ -209,23 +208,23 @@ machine_of s e =
     let options = options_of m (at s.memory 0x0C) y.1 in
     search
 
-memory_of : (l : List ℕ) → memory_judged l ≡ Fine → MemoryFit l
+memory_of : (l : List ℕ) → memory_judged l ≡ Ok tt → MemoryFit l
 unfolding memory_judged cells_judged
 memory_of l =
-    by_eq (λ r. r ≡ Fine → MemoryFit l) (length l) 1024 _ _ (λ t e. record { size = t; cells = λ a. rw zero-add at (unbroken_at l 0 a (nothing (broken_from l 0) e)) })
+    by_eq (λ r. r ≡ Ok tt → MemoryFit l) (length l) 1024 _ _ (λ t e. record { size = t; cells = λ a. rw zero-add at (unbroken_at l 0 a (nothing (broken_from l 0) e)) })
     (λ t e. let z : ◌≡◌ {A = ℕ} 0 1 = cc in absurd (omega arith))
   where
-    nothing : (f : Found) → cells_judged f ≡ Fine → f ≡ Nothing
-    nothing Nothing e = refl
-    nothing (At a) e = cc
+    nothing : (f : Option ℕ) → cells_judged f ≡ Ok tt → f ≡ None
+    nothing None e = refl
+    nothing (Some a) e = cc
 
-pub fit_of : (s : State) → state_judged s ≡ Fine → Fit s
+pub fit_of : (s : State) → state_judged s ≡ Ok tt → Fit s
 unfolding state_judged record_judged
 fit_of s e =
     let p = first_fine (memory_judged s.memory) (record_judged s) e in
     record { memory = memory_of s.memory p.0; machine = machine_of s (fine (well_formed_of s) p.1) }
   where
-    fine : (b : Bool) → pick b Fine (Refused refusal.Record) ≡ Fine → b ≡ true
+    fine : (b : Bool) → ◌≡◌ {A = Result (Unit {0}) Refusal} (pick b (Ok tt) (Err refusal.Record)) (Ok tt) → b ≡ true
     fine true e = refl
     fine false e = cc
 
@@ -264,7 +263,7 @@ module _ {m : Machine} {t b w o : ℕ} (f : MachineFit m t b w o) where
   unfolding timer0_fits watchdog_fits options_fit
   ties_fit_lem = rw (base_fits_lem, ne_eqb m.watchdog 0 (omega arith)) (search (lt-ltb, le-leb, eq-eqb))
 
-pub judged_of : {s : State} → Fit s → state_judged s ≡ Fine
+pub judged_of : {s : State} → Fit s → state_judged s ≡ Ok tt
 unfolding state_judged record_judged memory_judged cells_judged first_of well_formed_of ties_fit
 judged_of {s} f =
     let g = f.machine in

@@ -1,16 +1,16 @@
 -- Spans of a memory whose bits are taken together, and the memory whose spans all keep their rule.
+use Rattle.std.specs.Prelude.{MatchOption, None, Option, Some}
 use mathlib.Core.Path.{◌≡◌, refl}
-use mathlib.Core.Bool.{true, false}
-use mathlib.Core.List.{List}
-use Prim.Native.Nat.{ℕ, ◌+◌, ◌-◌, ◌≤◌}
+use mathlib.Core.Bool.{Bool, true, false}
+use mathlib.Core.List.{List, [], ◌∷◌}
+use Prim.Native.Nat.{ℕ, zero, suc, ◌+◌, ◌-◌, ◌<◌, ◌≤◌}
 use native.Mathlib.Omega.{arith}
-use native.Mathlib.Nat.{zero-add}
-use lib.Dec.{ltb, leb, eqb}
+use native.Mathlib.Nat.{add-zero, zero-add}
+use lib.Dec.{ltb, leb}
 use lib.Bits.{bit_and}
 use lib.ListN.{length}
-use borrow.Author.Tests.{leb-true, ltb-true, ltb-false, eqb-true, eqb-false, lt-ltb}
-use Rattle.lent.specs.Lent.{at, joined_of}
-use Rattle.lent.specs.declared.Found.TheVariants.{Nothing}
+use borrow.Author.Tests.{leb-true, ltb-true, ltb-false, eqb-true, lt-ltb}
+use Rattle.lent.specs.Lent.{at, fails_from, joined_of}
 use Rattle.lent.proofs.Laws.{test, by_lt, at_past}
 use Rattle.lent.proofs.Bits.{joined_above}
 use Rattle.sh_map.specs.declared.map.Kind.{Kind}
@@ -20,18 +20,34 @@ use Rattle.sh_rules.specs.Rules.{cell_fits, broken_from}
 use Rattle.sh_rules.specs.Spans.{Within, FitBelow}
 use Rattle.sh_rules.proofs.Fits.{unbroken}
 
--- what is told of nothing
-pub untold : {P : Type 0} → false ≡ true → P
-untold e = let z : ◌≡◌ {A = ℕ} 0 1 = cc in absurd (omega arith)
-
 -- bits taken together are no less than any of them
 pub within_by : (l : List ℕ) (a e top b : ℕ) → b ≡ joined_of l a (e - a) → leb b top ≡ true → Within l a e top
 within_by l a e top b p t i h k = omega (arith, joined_above l a e i h k, p, leb-true b top t)
 
--- registers, one by one
-pub below_on : (l : List ℕ) (i : ℕ) → FitBelow l i → cell_fits i (at l i) ≡ true → FitBelow l (i + 1)
-below_on l i w f j k =
-    test (eqb j i) (λ t. let e = eqb-true j i t in rw e f) (λ t. let e = eqb-false j i t in w j (omega arith))
+-- nothing fails where each element passes
+fails_none : (f : ℕ → ℕ → Bool) (l : List ℕ) (i : ℕ) → ((k : ℕ) → k < length l → f (i + k) (at l k) ≡ true) → None ≡ fails_from f l i
+unfolding fails_from
+fails_none f [] i h = refl
+fails_none f (v ∷ l) i h =
+    let e : f i v ≡ true = rw add-zero at (h 0 (omega arith)) in
+    rw e (fails_none f l (i + 1) (λ k b. let z : i + suc k ≡ i + 1 + k = omega arith in rw z at (h (suc k) (omega arith))))
+
+-- the first that fails comes after those that pass
+fails_first : (f : ℕ → ℕ → Bool) (l : List ℕ) (i n : ℕ) → n < length l → ((k : ℕ) → k < n → f (i + k) (at l k) ≡ true) → f (i + n) (at l n) ≡ false → Some (i + n) ≡ fails_from f l i
+unfolding fails_from
+fails_first f [] i n b h e = absurd (omega arith)
+fails_first f (v ∷ l) i zero b h e = let z : f i v ≡ false = rw add-zero at e in rw (z, add-zero)
+fails_first f (v ∷ l) i (suc n) b h e =
+    let p : f i v ≡ true = rw add-zero at (h 0 (omega arith)) in
+    let z : i + suc n ≡ i + 1 + n = omega arith in
+    rw (p, z) (fails_first f l (i + 1) n (omega arith) (λ k b. let y : i + suc k ≡ i + 1 + k = omega arith in rw y at (h (suc k) (omega arith))) (rw z at e))
+
+-- the place that a search finds
+pub first_of_fits : (l : List ℕ) (r : Option ℕ) → MatchOption r (FitBelow l (length l)) (λ i. (i < length l) × FitBelow l i × (cell_fits i (at l i) ≡ false)) → r ≡ broken_from l 0
+first_of_fits l None h = fails_none cell_fits l 0 (λ k b. rw zero-add (h k b))
+first_of_fits l (Some i) h =
+    let z : 0 + i ≡ i = omega arith in
+    rw z at (fails_first cell_fits l 0 i h.0 (λ k b. rw zero-add (h.1 k b)) (rw zero-add h.2))
 
 -- Spans that all keep their rule make a memory that does.
 module _ (l : List ℕ) (n : length l ≡ 1024) (low : FitBelow l 32)
@@ -53,5 +69,5 @@ module _ (l : List ℕ) (n : length l ≡ 1024) (low : FitBelow l 32)
       (λ h. by_lt P i 0x378 _ _ (λ k. nibble (sound i h k))
       (λ k. none (test (ltb i 0x400) (λ t. rest i k (ltb-true i 0x400 t)) (λ t. rw (← at_past l i (rw n (ltb-false i 0x400 t))) (omega arith)))))))))))
 
-  pub unbroken_spans : broken_from l 0 ≡ Nothing
+  pub unbroken_spans : broken_from l 0 ≡ None
   unbroken_spans = unbroken l 0 (λ i. rw zero-add (cell i))

@@ -1,9 +1,8 @@
 -- The rules of a memory and of a record beside it (01, "What is lent"; 02, P1: the tone channels; 02, P2: the frozen nibble): a part for each.
-use Rattle.std.specs.Prelude.{ℕ, ◌/◌, ◌%◌, Bool, false, List, ltb, leb, eqb, length}
+use Rattle.std.specs.Prelude.{ℕ, ◌/◌, ◌%◌, Bool, false, List, ltb, leb, eqb, length, Option}
 use Rattle.std.specs.Int.Bits.{bit_and}
 use Rattle.lent.specs.Lent.{pick, both, at, fails_from}
 use Rattle.sh_state.specs.declared.machine.Machine.{Machine}
-use Rattle.lent.specs.declared.Found.{Found}
 use Rattle.sh_map.specs.Map.{held_of}
 use Rattle.sh_tones.specs.Tone.{channels_fit}
 use Rattle.sh_halves.specs.Halves.{frozen_fits}
@@ -15,7 +14,7 @@ unfoldable pub cell_fits : ℕ → ℕ → Bool
 cell_fits a v = eqb (bit_and v (held_of a)) v
 
 -- the lowest address, from a on, whose byte breaks the rule
-abbrev pub broken_from : List ℕ → ℕ → Found
+abbrev pub broken_from : List ℕ → ℕ → Option ℕ
 broken_from l a = fails_from cell_fits l a
 
 -- PC 0-4095, AC a nibble, CY a bit, mode 0, 1 or 2

@@ -4,64 +4,51 @@ ghost use Rattle.sh_state.specs.State.{state};
 ghost use Rattle.sh_rules.specs.Judge.{cells_judged, memory_judged, record_judged, first_of, state_judged};
 
 use crate::rules;
-use lent::Found;
 use refusal::Refusal;
 use sh_state::machine::Machine;
 
-#[derive(Clone, Copy)]
-pub enum Judged {
-    Fine,
-    Refused(Refusal),
-}
-
 #[tactic(auto, unfolding(crate::specs::Judge::cells_judged))]
-fn cells(f: Found) -> Judged
+fn cells(f: Option<usize>) -> Result<(), Refusal>
     ensures { result ≡ cells_judged f }
 {
-    match f {
-        Found::At(a) => Judged::Refused(Refusal::CellRule(a as u64)),
-        Found::Nothing => Judged::Fine,
-    }
+    f.map_or(Ok(()), |a| Err(Refusal::CellRule(a as u64)))
 }
 
 // A memory by its length and then by its lowest broken cell.
 #[tactic(auto, unfolding(crate::specs::Judge::memory_judged))]
-pub fn memory(bytes: &[u8]) -> Judged
+pub fn memory(bytes: &[u8]) -> Result<(), Refusal>
     ensures { result ≡ memory_judged bytes.now }
 {
     let n = bytes.len();
     if n != Machine::CELLS {
-        return Judged::Refused(Refusal::MemoryLength(n as u64));
+        return Err(Refusal::MemoryLength(n as u64));
     }
     cells(rules::first_broken(bytes))
 }
 
 // A record by the memory beside it.
 #[tactic(auto, unfolding(crate::specs::Judge::record_judged))]
-fn record(m: Machine, bytes: &[u8]) -> Judged
+fn record(m: Machine, bytes: &[u8]) -> Result<(), Refusal>
     ensures { result ≡ record_judged (state m bytes.now) }
 {
-    if rules::well_formed(m, bytes) {
-        return Judged::Fine;
-    }
-    Judged::Refused(Refusal::Record)
+    rules::well_formed(m, bytes)
+        .then_some(())
+        .ok_or(Refusal::Record)
 }
 
 // The first of two judgements that turns down.
 #[tactic(auto, unfolding(crate::specs::Judge::first_of))]
-pub fn first(a: Judged, b: Judged) -> Judged
+pub fn first(a: Result<(), Refusal>, b: Result<(), Refusal>) -> Result<(), Refusal>
     ensures { result ≡ first_of a b }
 {
-    match a {
-        Judged::Fine => b,
-        Judged::Refused(why) => Judged::Refused(why),
-    }
+    a.and(b)
 }
 
 // A memory and the record beside it.
-#[tactic(auto, unfolding(crate::specs::Judge::state_judged))]
-pub fn machine(m: Machine, bytes: &[u8]) -> Judged
+#[tactic(auto, unfolding(crate::specs::Judge::state_judged, crate::specs::Judge::first_of))]
+pub fn machine(m: Machine, bytes: &[u8]) -> Result<(), Refusal>
     ensures { result ≡ state_judged (state m bytes.now) }
 {
-    first(memory(bytes), record(m, bytes))
+    memory(bytes)?;
+    record(m, bytes)
 }

@@ -1,23 +1,18 @@
 // The rules of a memory and of a record beside it.
-ghost use Rattle.std.specs.Prelude.{◌≡◌, true, ◌≤◌, length};
+ghost use Rattle.std.specs.Prelude.{◌≡◌, true, ◌≤◌, length, None};
 ghost use Rattle.sh_state.specs.State.{state};
-ghost use Rattle.lent.specs.declared.Found.TheVariants.{Nothing};
 ghost use Rattle.sh_rules.specs.Spans.{Within, FitBelow};
 ghost use Rattle.sh_rules.specs.Rules.{cell_fits, broken_from, cpu_fits, stack_fits, timer0_fits, base_fits, watchdog_fits, bytes_fit, pins_fit, options_fit, pending_fits, well_formed_of, ties_fit};
 
-use lent::Found;
 use sh_map::map;
 use sh_state::machine::Machine;
 
 // Whether a byte has no bit but those that the cell at an address holds.
-#[tactic(auto, unfolding(crate::specs::Rules::cell_fits))]
+#[tactic(auto, using(crate::proofs::Laws::fits_past), unfolding(crate::specs::Rules::cell_fits))]
 fn cell_fits(a: usize, v: u8) -> bool
     ensures { result ≡ cell_fits a v }
 {
-    if a < 0x10000 {
-        return v & map::held(a as u16) == v;
-    }
-    v == 0
+    u16::try_from(a).map_or(v == 0, |a| v & map::held(a) == v)
 }
 
 // Whether the bytes of a span, their bits taken together, are at most top; then each is.
@@ -33,112 +28,51 @@ fn registers_fit(memory: &[u8]) -> bool
     requires { 32 ≤ length memory.now }
     ensures { result ≡ true → FitBelow memory.now 32 }
 {
-    let mut i: usize = 0;
-    while i < 32 {
-        if !cell_fits(i, memory[i]) {
-            return false;
-        }
-        i += 1;
-    }
-    true
+    (0..32).all(|i| cell_fits(i, memory[i]))
 }
 
-// True only where every cell fits, by spans, which is quick; where it is false, the search decides.
+// True only where every cell fits, by spans, which is quick; where it is false, the search decides. A line for each span: a table of
+// them would say no more, and each line's place is known to lie in the memory.
 fn all_fit(memory: &[u8]) -> bool
-    ensures { result ≡ true → broken_from memory.now 0 ≡ Nothing }
+    ensures { result ≡ true → broken_from memory.now 0 ≡ None }
 {
-    if memory.len() != Machine::CELLS {
-        return false;
-    }
-    if !within(memory, 0x020, 0x170, 15) {
-        return false;
-    }
-    if !within(memory, 0x170, 0x300, 0) {
-        return false;
-    }
-    if !within(memory, 0x300, 0x349, 15) {
-        return false;
-    }
-    if !within(memory, 0x349, 0x358, 0) {
-        return false;
-    }
-    if !within(memory, 0x358, 0x36E, 15) {
-        return false;
-    }
-    if !within(memory, 0x36E, 0x370, 0) {
-        return false;
-    }
-    if !within(memory, 0x370, 0x378, 15) {
-        return false;
-    }
-    if !within(memory, 0x378, 0x400, 0) {
-        return false;
-    }
-    registers_fit(memory)
+    memory.len() == Machine::CELLS
+        && within(memory, 0x020, 0x170, 15)
+        && within(memory, 0x170, 0x300, 0)
+        && within(memory, 0x300, 0x349, 15)
+        && within(memory, 0x349, 0x358, 0)
+        && within(memory, 0x358, 0x36E, 15)
+        && within(memory, 0x36E, 0x370, 0)
+        && within(memory, 0x370, 0x378, 15)
+        && within(memory, 0x378, 0x400, 0)
+        && registers_fit(memory)
 }
 
 // The lowest address whose byte breaks the memory rules.
-pub fn first_broken(memory: &[u8]) -> Found
+pub fn first_broken(memory: &[u8]) -> Option<usize>
     ensures { result ≡ broken_from memory.now 0 }
 {
     if all_fit(memory) {
-        return Found::Nothing;
+        return None;
     }
-    let mut i: usize = 0;
-    while i < memory.len() {
-        if !cell_fits(i, memory[i]) {
-            return Found::At(i);
-        }
-        i += 1;
-    }
-    Found::Nothing
+    memory
+        .iter()
+        .enumerate()
+        .position(|(i, v)| !cell_fits(i, *v))
 }
 
 #[tactic(auto, unfolding(crate::specs::Rules::cpu_fits))]
 fn cpu_fits(m: Machine) -> bool
     ensures { result ≡ cpu_fits m }
 {
-    if 4096 <= m.pc {
-        return false;
-    }
-    if 16 <= m.ac {
-        return false;
-    }
-    if 2 <= m.cy {
-        return false;
-    }
-    m.mode < 3
+    m.pc < 4096 && m.ac < 16 && m.cy < 2 && m.mode < 3
 }
 
 #[tactic(auto, unfolding(crate::specs::Rules::stack_fits))]
 fn stack_fits(s: [u16; Machine::LEVELS]) -> bool
     ensures { result ≡ stack_fits s }
 {
-    if 8192 <= s[0] {
-        return false;
-    }
-    if 8192 <= s[1] {
-        return false;
-    }
-    if 8192 <= s[2] {
-        return false;
-    }
-    if 8192 <= s[3] {
-        return false;
-    }
-    if 8192 <= s[4] {
-        return false;
-    }
-    if 8192 <= s[5] {
-        return false;
-    }
-    if 8192 <= s[6] {
-        return false;
-    }
-    if 8192 <= s[7] {
-        return false;
-    }
-    true
+    s.iter().all(|e| *e < 8192)
 }
 
 #[tactic(auto, unfolding(crate::specs::Rules::timer0_fits))]
@@ -155,20 +89,14 @@ fn base_fits(m: Machine, mode: u8) -> bool
     if mode / 4 % 4 == 2 {
         return m.baseprescaler < sh_periods::base_ratio(mode);
     }
-    if m.baseprescaler != 0 {
-        return false;
-    }
-    m.basecounter == 0
+    m.baseprescaler == 0 && m.basecounter == 0
 }
 
 #[tactic(auto, unfolding(crate::specs::Rules::watchdog_fits))]
 fn watchdog_fits(m: Machine, control: u8) -> bool
     ensures { result ≡ watchdog_fits m control }
 {
-    if m.watchdog == 0 {
-        return false;
-    }
-    m.watchdog <= sh_periods::period(control)
+    m.watchdog != 0 && m.watchdog <= sh_periods::period(control)
 }
 
 // Counter, load and base counter are bytes by their type.
@@ -183,39 +111,25 @@ fn bytes_fit(m: Machine) -> bool
 fn pins_fit(m: Machine) -> bool
     ensures { result ≡ pins_fit m }
 {
-    if 16 <= m.pina {
-        return false;
-    }
-    if 16 <= m.pinb {
-        return false;
-    }
-    if 16 <= m.pinc {
-        return false;
-    }
-    m.pind < 16
+    m.pina < 16 && m.pinb < 16 && m.pinc < 16 && m.pind < 16
 }
 
 #[tactic(auto, unfolding(crate::specs::Rules::options_fit))]
 fn options_fit(m: Machine, bonding: u8) -> bool
     ensures { result ≡ options_fit m bonding }
 {
-    if 8 <= m.options {
-        return false;
-    }
-    bonding % 4 == m.options / 2
+    m.options < 8 && bonding % 4 == m.options / 2
 }
 
 #[tactic(auto, unfolding(crate::specs::Rules::pending_fits))]
 fn pending_fits(m: Machine) -> bool
     ensures { result ≡ pending_fits m }
 {
-    if m.pending == 0 {
-        return m.address == 0;
+    match m.pending {
+        0 => m.address == 0,
+        1 => m.address < 4096,
+        _ => false,
     }
-    if m.pending == 1 {
-        return m.address < 4096;
-    }
-    false
 }
 
 // The rules that tie a field to the memory beside it.
@@ -223,11 +137,10 @@ fn pending_fits(m: Machine) -> bool
 fn ties_fit(m: Machine, memory: &[u8]) -> bool
     ensures { result ≡ ties_fit (state m memory.now) }
 {
-    let timer0 = timer0_fits(m, map::cell(memory, 0x02));
-    let base = base_fits(m, map::cell(memory, 0x03));
-    let watchdog = watchdog_fits(m, map::cell(memory, 0x1E));
-    let options = options_fit(m, map::cell(memory, 0x0C));
-    lent::both(timer0, lent::both(base, lent::both(watchdog, options)))
+    timer0_fits(m, map::cell(memory, 0x02))
+        && base_fits(m, map::cell(memory, 0x03))
+        && watchdog_fits(m, map::cell(memory, 0x1E))
+        && options_fit(m, map::cell(memory, 0x0C))
 }
 
 // Whether a record fits its memory.
@@ -235,13 +148,12 @@ fn ties_fit(m: Machine, memory: &[u8]) -> bool
 pub fn well_formed(m: Machine, memory: &[u8]) -> bool
     ensures { result ≡ well_formed_of (state m memory.now) }
 {
-    let s = m.stack;
-    let cpu = lent::both(cpu_fits(m), stack_fits(s));
-    let ports = lent::both(bytes_fit(m), pins_fit(m));
-    let parts = lent::both(sh_tones::fit(m.channels), sh_halves::fits(m.frozen));
-    let rest = lent::both(pending_fits(m), parts);
-    lent::both(
-        cpu,
-        lent::both(ports, lent::both(rest, ties_fit(m, memory))),
-    )
+    cpu_fits(m)
+        && stack_fits(m.stack)
+        && bytes_fit(m)
+        && pins_fit(m)
+        && pending_fits(m)
+        && sh_tones::fit(m.channels)
+        && sh_halves::fits(m.frozen)
+        && ties_fit(m, memory)
 }

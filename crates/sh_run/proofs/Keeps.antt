@@ -1,9 +1,9 @@
 -- A run keeps a well-formed machine well formed, wherever it stops.
+use Rattle.std.specs.Prelude.{Ok}
 use mathlib.Core.Path.{◌≡◌}
 use mathlib.Core.List.{List, [], ◌∷◌}
 use Prim.Native.Nat.{ℕ, ◌+◌}
 use Rattle.lent.proofs.Laws.{by_choice}
-use Rattle.sh_rules.specs.declared.judge.Judged.TheVariants.{Fine}
 use Rattle.sh_rules.specs.Judge.{state_judged}
 use Rattle.sh_state.specs.State.{State}
 use Rattle.sh_rules.proofs.Fits.{Fit, fit_of, judged_of}
@@ -21,5 +21,5 @@ run_keeps p target (e ∷ script) s n f =
     (run_keeps p target script (event_of p s e).after (n + 1) g))
 
 -- the same in the words by which a call turns a machine down
-pub run_judged : (p : List ℕ) (target : ℕ) (script : List ℕ) (s : State) (n : ℕ) → state_judged s ≡ Fine → state_judged (run_of p target script s n).after ≡ Fine
+pub run_judged : (p : List ℕ) (target : ℕ) (script : List ℕ) (s : State) (n : ℕ) → state_judged s ≡ Ok tt → state_judged (run_of p target script s n).after ≡ Ok tt
 run_judged p target script s n h = judged_of (run_keeps p target script s n (fit_of s h))

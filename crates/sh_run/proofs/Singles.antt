@@ -13,7 +13,7 @@ use Rattle.sh_cycle.specs.Cycle.{Happened, happened, cycle_of}
 use Rattle.sh_events.specs.Event.{other_of, event_of}
 use Rattle.sh_run.specs.declared.Stop.TheVariants as stop
 use Rattle.sh_run.specs.Run.{ran, reached_of, run_of}
-use Rattle.sh_run.specs.Stretch.{at_of, on_of, passed_of, Passing}
+use Rattle.sh_run.specs.Stretch.{at_of, on_of, passed_of, Onward, Passing}
 use Rattle.sh_run.proofs.Laws.{run_stuck, run_at, run_on}
 
 module _ (p : List ℕ) (target : ℕ) (script : List ℕ) (s : State) (i : ℕ) (lt : i < length script) where
@@ -51,6 +51,11 @@ module _ (p : List ℕ) (target : ℕ) (script : List ℕ) (s : State) (i : ℕ)
       unfolding on_of
       cycle_on true g = run_at p target script s i lt h cycle_event f true (g ∙ cycle_reached) refl
       cycle_on false g = run_on p target script s i lt h cycle_event f false (g ∙ cycle_reached) refl
+
+-- the next event that is no cycle
+pub part_onward : {p : List ℕ} {target : ℕ} {script : List ℕ} {first : ℕ} {s t u : State} {i : ℕ} → Onward p target script first s false t i → i < length script → (at script i ≡ 0 → ⊥) → u ≡ other_of t (at script i) → Onward p target script first s false u (i + 1)
+unfolding on_of
+part_onward {p} {target} {script} {t = t} {u = u} {i = i} o lt z e = record { same = part_on p target script t i lt z u e ∙ o.same; from = omega (arith, o.from); to = omega arith }
 
 -- What it leaves.
 module _ {p : List ℕ} {target : ℕ} {script : List ℕ} {first : ℕ} {s : State} where

@@ -25,7 +25,6 @@ use Rattle.sh_ticks.proofs.Ticks.{timed_none}
 use Rattle.sh_ticks.proofs.Quiet.{Low, quick_low, awake_step, halted_step}
 use Rattle.sh_turn.specs.Turn.{Turn, turn, turn_of}
 use Rattle.sh_turn.proofs.TurnedQuiet.{Same, Leaves, turn_same, turn_left, turn_unmoved, turn_room, turn_quiet, turn_step}
-use Rattle.sh_run.specs.declared.stretch.Pause.{Pause}
 use Rattle.sh_run.specs.declared.stretch.Stretch.{Stretch}
 use Rattle.sh_run.specs.declared.Stop.TheVariants as stop
 use Rattle.sh_run.specs.Run.{ran, reached_of, run_of}
@@ -83,6 +82,9 @@ module _ {p : List ℕ} {target : ℕ} {script : List ℕ} {first : ℕ} {s : St
   pub arrived : {t : State} {n : ℕ} → ran t stop.Address n ≡ run_of p target (drop first script) s first → first ≤ n → n ≤ length script → Onward p target script first s true t n
   unfolding on_of
   arrived e f g = record { same = e; from = f; to = g }
+
+  pub standing : first ≤ length script → Onward p target script first s false s first
+  standing h = paused refl (le_refl _) h
 
   -- how the run goes on from it
   pub gone_on : {b : Bool} {t : State} {n : ℕ} → Onward p target script first s b t n → b ≡ false → run_of p target (drop n script) t n ≡ run_of p target (drop first script) s first
@@ -174,6 +176,11 @@ module _ (p : List ℕ) (target : ℕ) (script : List ℕ) (m : Machine) (mode f
       subst (λ (i : ℕ). run_of p target (drop i script) (state (timed_of m mode (i - first)) l) i ≡ run_of p target (drop first script) (state m l) first) e
       (halted_for (n - first) (omega (arith, c.from, c.to)) (omega (arith, c.from, c.to)) (λ k a f. c.only k a (omega arith)))
 
+-- What a stretch in HALT leaves.
+pub halted_onward : {p : List ℕ} {target : ℕ} {script : List ℕ} {m : Machine} {mode first : ℕ} {l : List ℕ} {n end : ℕ} → Quiet m l mode → m.mode ≡ 1 → at_of m.pc target ≡ false → 0 < room_of m mode → Cycles script first n end → end ≤ length script → end ≤ first + room_of m mode → Onward p target script first (state m l) false (before_of m mode first (core m.pc m.ac m.cy true) l n) n
+halted_onward {p} {target} {script} {m} {mode} {first} {l} {n} {end} q g b h c s r =
+    paused (slept_run p target (drop n script) l m mode (n - first) n ∙ halted_through p target script m mode first l q g b h n end c s r) c.from (omega (arith, c.to))
+
 -- What going leaves.
 module _ {p : List ℕ} {target : ℕ} {script : List ℕ} {m : Machine} {mode first end : ℕ} {from : Core} {l : List ℕ} {begin : ℕ} where
   pub held_up : {c : Core} {t : List ℕ} {n : ℕ} → run_of p target (drop n script) (before_of m mode first c t n) n ≡ run_of p target (drop begin script) (before_of m mode first from l begin) begin → begin ≤ n → n ≤ end → Quiet m t mode → Going p target script m mode first end from l begin false c t n
@@ -184,16 +191,22 @@ module _ {p : List ℕ} {target : ℕ} {script : List ℕ} {m : Machine} {mode f
   unfolding on_of
   got_there e f g q = record { same = e; from = f; to = g; quiet = q }
 
-  pub going_at : {v u : Pause} {t : List ℕ} → v ≡ u → Going p target script m mode first end from l begin u.reached u.core t u.events → Going p target script m mode first end from l begin v.reached v.core t v.events
-  going_at {t = t} e = subst (λ (k : Pause). Going p target script m mode first end from l begin k.reached k.core t k.events) (sym e)
+  pub going_begun : begin ≤ end → Quiet m l mode → Going p target script m mode first end from l begin false from l begin
+  going_begun h q = held_up refl (le_refl _) h q
 
-  pub went_on : {b : Bool} {c : Core} {t : List ℕ} {n : ℕ} → Going p target script m mode first end from l begin b c t n → b ≡ false → run_of p target (drop n script) (before_of m mode first c t n) n ≡ run_of p target (drop begin script) (before_of m mode first from l begin) begin
-  unfolding on_of
-  went_on {c = c} {t = t} {n = n} o f = sym (ap (λ (k : Bool). pick k (ran (before_of m mode first c t n) stop.Address n) (run_of p target (drop n script) (before_of m mode first c t n) n)) f) ∙ o.same
+  -- the next word of going
+  module _ (f : first ≤ begin) (h : end ≤ length script) (r : end ≤ first + room_of m mode) {c : Core} {t : List ℕ} {i : ℕ} (g : Going p target script m mode first end from l begin false c t i) (lt : i < end) (z : at script i ≡ 0) {d : Core} {u : List ℕ} (e : quickly d u ≡ quick_of c t (at p c.pc)) where
+    pub going_stays : d.went ≡ false → Going p target script m mode first end from l begin false c u i
+    unfolding on_of
+    going_stays w =
+        held_up (stayed_run p target script m mode first i (omega (arith, g.from)) (omega arith) z (omega (arith, g.from)) c t g.quiet d u e w ∙ g.same) g.from g.to (still_quiet _ m mode c t g.quiet d u e)
 
-  pub went_at : {b : Bool} {c : Core} {t : List ℕ} {n : ℕ} → Going p target script m mode first end from l begin b c t n → b ≡ true → ran (before_of m mode first c t n) stop.Address n ≡ run_of p target (drop begin script) (before_of m mode first from l begin) begin
-  unfolding on_of
-  went_at {c = c} {t = t} {n = n} o f = sym (ap (λ (k : Bool). pick k (ran (before_of m mode first c t n) stop.Address n) (run_of p target (drop n script) (before_of m mode first c t n) n)) f) ∙ o.same
+    pub going_on : m.mode ≡ 0 → d.went ≡ true → (b : Bool) → b ≡ at_of d.pc target → Going p target script m mode first end from l begin b d u (i + 1)
+    unfolding on_of
+    going_on a w true k =
+        got_there (awake_at p target script m mode first i (omega (arith, g.from)) (omega arith) z (omega (arith, g.from)) c t g.quiet d u e a w (sym k) ∙ g.same) (omega (arith, g.from)) (omega arith) (still_quiet _ m mode c t g.quiet d u e)
+    going_on a w false k =
+        held_up (awake_on p target script m mode first i (omega (arith, g.from)) (omega arith) z (omega (arith, g.from)) c t g.quiet d u e a w (sym k) ∙ g.same) (omega (arith, g.from)) (omega arith) (still_quiet _ m mode c t g.quiet d u e)
 
 -- the word that was fetched
 pub by_turn : {r : Turn} {w v : ℕ} (m : Machine) (c : Core) (l : List ℕ) → r ≡ turn_of m c l w → w ≡ v → r ≡ turn_of m c l v
@@ -240,23 +253,27 @@ module _ (p : List ℕ) (target : ℕ) (script : List ℕ) (m : Machine) (mode f
       pub turn_at : at_of d.pc target ≡ true → ran (state (core_in (timed_of n mode (i + 1 - first)) d) t) stop.Address (i + 1) ≡ run_of p target (drop i script) (state (core_in (timed_of m mode (i - first)) c) l) i
       turn_at b = run_at p target script _ i lt _ turn_event refl _ turn_reached b
 
--- between the first event, the next and the end
-pub upto : {a b c : ℕ} → a ≤ b → b ≤ c → a ≤ c
-upto h k = omega arith
+-- What awake leaves.
+pub begun_onward : {p : List ℕ} {target : ℕ} {script : List ℕ} {m : Machine} (mode : ℕ) {first : ℕ} {l : List ℕ} → 0 < room_of m mode → first ≤ length script → Onward p target script first (state m l) false (before_of m mode first (core m.pc m.ac m.cy true) l first) first
+begun_onward {p} {target} {script} {m} mode {first} {l} h f = paused (begun_run p target (drop first script) l m mode first first h) (le_refl _) f
 
-pub upto_more : {a b c : ℕ} → a ≤ b → b ≤ c → a ≤ c + 1
-upto_more h k = omega arith
+module _ {p : List ℕ} {target : ℕ} {script : List ℕ} {mode first : ℕ} {s : State} where
+  pub onward_going : {m : Machine} {c d : Core} {t u : List ℕ} {i n end : ℕ} {b : Bool} → Onward p target script first s false (before_of m mode first c t i) i → Going p target script m mode first end c t i b d u n → end ≤ length script → {k : Bool} → b ≡ k → Onward p target script first s k (before_of m mode first d u n) n
+  unfolding on_of
+  onward_going {m = m} {d = d} {u = u} {n = n} o g h q =
+      subst (λ (k : Bool). Onward p target script first s k (before_of m mode first d u n) n) q
+      (record { same = g.same ∙ o.same; from = omega (arith, o.from, g.from); to = omega (arith, g.to) })
 
-pub below : {a b c : ℕ} → a < b → b ≤ c → a < c
-below h k = omega arith
+  -- a turn that went or not
+  module _ (m n : Machine) (c d : Core) {t u : List ℕ} {i end : ℕ} (o : Onward p target script first s false (before_of m mode first c t i) i) (lt : i < end) (h : end ≤ length script) (r : end ≤ first + room_of m mode) (z : at script i ≡ 0) (q : Quiet m t mode) (e : turn n d u ≡ turn_of m c t (at p c.pc)) where
+    pub onward_stays : d.went ≡ false → Onward p target script first s false (before_of n mode first c u i) i
+    unfolding on_of
+    onward_stays w =
+        paused (stayed_turn p target script m mode first i o.from (omega arith) z (omega (arith, o.from)) c t q n d u e w ∙ o.same) o.from o.to
 
-pub next_upto : {a b c : ℕ} → a < b → b ≤ c → a + 1 ≤ c
-next_upto h k = omega arith
-
-pub in_room : {first n end room k : ℕ} → first ≤ n → n < end → end ≤ first + room → room ≡ k → n - first < k
-in_room a b c d = omega arith
-
--- either way of a test that says whether the address is reached
-pub either : {p : List ℕ} {target : ℕ} {script : List ℕ} {first : ℕ} {s : State} {t : State} {n : ℕ} (b : Bool) → (b ≡ false → run_of p target (drop n script) t n ≡ run_of p target (drop first script) s first) → (b ≡ true → ran t stop.Address n ≡ run_of p target (drop first script) s first) → first ≤ n → n ≤ length script → Onward p target script first s b t n
-either true f g = arrived (g refl)
-either false f g = paused (f refl)
+    pub onward_turn : m.mode ≡ 0 → d.went ≡ true → (b : Bool) → b ≡ at_of d.pc target → Onward p target script first s b (before_of n mode first d u (i + 1)) (i + 1)
+    unfolding on_of
+    onward_turn a w true k =
+        arrived (turn_at p target script m mode first i o.from (omega arith) z (omega (arith, o.from)) c t q n d u e a w (sym k) ∙ o.same) (omega (arith, o.from)) (omega arith)
+    onward_turn a w false k =
+        paused (turn_on p target script m mode first i o.from (omega arith) z (omega (arith, o.from)) c t q n d u e a w (sym k) ∙ o.same) (omega (arith, o.from)) (omega arith)

@@ -7,7 +7,6 @@ use Rattle.sh_core.specs.declared.Core.{Core}
 use Rattle.sh_core.specs.Quick.{core_in}
 use Rattle.sh_ticks.specs.Clock.{Quiet, timed_of}
 use Rattle.sh_run.specs.declared.stretch.Stretch.{Stretch}
-use Rattle.sh_run.specs.declared.stretch.Pause.{Pause}
 use Rattle.sh_run.specs.declared.Stop.TheVariants as stop
 use Rattle.sh_run.specs.Run.{Ran, ran, run_of}
 
@@ -54,9 +53,6 @@ pub record Cycles (script : List ℕ) (first n end : ℕ) : Type 0 where
   pub from : first ≤ n
   pub to : n ≤ end
   pub only : (k : ℕ) → first ≤ k → k < n → at script k ≡ 0
-
-abbrev pub paused_at : Core → ℕ → Bool → Pause
-paused_at c n reached = record { core = c; events = n; reached = reached }
 
 -- the machine with PC, AC and CY after the clocks of the events before i
 abbrev pub before_of : Machine → ℕ → ℕ → Core → List ℕ → ℕ → State

@@ -26,6 +26,7 @@ pub struct Ended {
 }
 
 // The run of a script, until a cycle leaves PC at the target, the next cycle would execute an unlisted word, or the script ends.
+// It stays a `loop`: a stretch and the event behind it go on by as many events as they take, and it ends in four places.
 pub fn run(program: &[u16], start: Machine, memory: &mut [u8], script: &[u8], target: u32) -> Ended
     ensures { ran (state result.machine memory.new) result.why result.events ≡ run_of program.now target script.now (state start memory.old) 0 }
 {

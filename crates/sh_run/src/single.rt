@@ -21,6 +21,7 @@ pub struct Single {
 }
 
 // The events from the first on that are no cycles.
+#[tactic(auto, using(crate::proofs::Stretches::standing, crate::proofs::Stretches::onward_at, crate::proofs::Singles::part_onward))]
 fn others(
     program: &[u16],
     start: Machine,
@@ -33,16 +34,14 @@ fn others(
     ensures { Onward program.now target script.now first (state start memory.old) result.reached (state result.machine memory.new) result.events }
 {
     let mut m = start;
-    let mut i = first;
-    while i < script.len() {
+    for i in first..script.len() {
         let e = script[i];
         if e == 0 {
             return stretch::unmoved(m, i);
         }
         m = event::other(m, memory, e);
-        i += 1;
     }
-    stretch::unmoved(m, i)
+    stretch::unmoved(m, script.len())
 }
 
 fn by_parts(
@@ -59,9 +58,8 @@ fn by_parts(
 {
     let m = event::other(start, memory, e);
     let q = others(program, m, memory, script, first + 1, target);
-    let n = q.machine;
     Single {
-        machine: n,
+        machine: q.machine,
         events: q.events,
         stuck: false,
         reached: q.reached,
@@ -79,21 +77,19 @@ fn by_cycle(
     requires { (first < length script.now) × (at script.now first ≡ 0) }
     ensures { Passing program.now target script.now first (state start memory.old) result.stuck result.reached (state result.machine memory.new) result.events }
 {
-    let o = cycle::cycle(program, start, memory);
-    let m = o.machine;
-    if o.stuck {
-        return Single {
+    match cycle::cycle(program, start, memory) {
+        Some(m) => Single {
             machine: m,
+            events: first + 1,
+            stuck: false,
+            reached: stretch::at(m.pc, target),
+        },
+        None => Single {
+            machine: start,
             events: first,
             stuck: true,
             reached: false,
-        };
-    }
-    Single {
-        machine: m,
-        events: first + 1,
-        stuck: false,
-        reached: stretch::at(m.pc, target),
+        },
     }
 }
 

@@ -3,7 +3,7 @@ ghost use Rattle.std.specs.Prelude.{◌+◌, ◌-◌, ◌<◌, ◌≤◌, ◌≡
 ghost use Rattle.sh_state.specs.State.{state};
 ghost use Rattle.sh_core.specs.Quick.{core_in};
 ghost use Rattle.sh_ticks.specs.Clock.{Quiet, timed_of, room_of};
-ghost use Rattle.sh_run.specs.Stretch.{stretched, at_of, quiet_of, Onward, Cycles, paused_at, Going, apart_cell, apart_of};
+ghost use Rattle.sh_run.specs.Stretch.{stretched, at_of, quiet_of, Onward, Cycles, Going, apart_cell, apart_of};
 
 use sh_core::Core;
 use sh_map::map;
@@ -23,10 +23,7 @@ pub struct Stretch {
 pub fn at(pc: u16, target: u32) -> bool
     ensures { result ≡ at_of pc target }
 {
-    if target < 4096 {
-        return pc as u32 == target;
-    }
-    false
+    target < 4096 && pc as u32 == target
 }
 
 // Whether a cycle is quiet: no read pending, nothing due, and room before Timer0 overflows.
@@ -34,16 +31,7 @@ pub fn at(pc: u16, target: u32) -> bool
 fn quiet(m: Machine, due: u8, room: u32) -> bool
     ensures { result ≡ quiet_of m due room }
 {
-    if m.pending == 0 {
-        if m.address == 0 {
-            if due == 0 {
-                return 0 < room;
-            }
-            return false;
-        }
-        return false;
-    }
-    false
+    m.pending == 0 && m.address == 0 && due == 0 && 0 < room
 }
 
 // Where the room ends, or the script.
@@ -51,10 +39,7 @@ fn end(first: usize, len: usize, room: u32) -> usize
     requires { first ≤ len }
     ensures { (first ≤ result) × (result ≤ len) × (result ≤ first + room) }
 {
-    if len - first < room as usize {
-        return len;
-    }
-    first + room as usize
+    first + (len - first).min(room as usize)
 }
 
 // The machine after the clocks of the events from the first on.
@@ -85,18 +70,8 @@ pub struct Pause {
     pub reached: bool,
 }
 
-// An invariant may speak only of what its loop names: m is here to be named.
-fn so_far(m: Machine, core: Core, events: usize, reached: bool) -> Pause
-    ensures { result ≡ paused_at core events reached }
-{
-    Pause {
-        core,
-        events,
-        reached,
-    }
-}
-
 // Awake: the words that go, one after the other.
+#[tactic(auto, using(crate::proofs::Stretches::going_begun))]
 fn going(
     program: &[u16],
     m: Machine,
@@ -114,28 +89,40 @@ fn going(
     ensures { Going program.now target script.now m mode first end from memory.old begin result.reached result.core memory.new result.events }
 {
     let mut c = from;
-    let mut i = begin;
-    loop {
-        if end <= i {
-            return so_far(m, c, i, false);
-        }
+    for i in begin..end {
         if script[i] != 0 {
-            return so_far(m, c, i, false);
+            return Pause {
+                core: c,
+                events: i,
+                reached: false,
+            };
         }
-        let w = lent::fetch(program, c.pc as usize);
+        let w = lent::peek(program, c.pc as usize);
         let r = sh_core::quick(c, memory, w);
         if !r.went {
-            return so_far(m, c, i, false);
+            return Pause {
+                core: c,
+                events: i,
+                reached: false,
+            };
         }
         c = r;
-        i += 1;
         if at(c.pc, target) {
-            return so_far(m, c, i, true);
+            return Pause {
+                core: c,
+                events: i + 1,
+                reached: true,
+            };
         }
+    }
+    Pause {
+        core: c,
+        events: end,
+        reached: false,
     }
 }
 
-// Awake, with turns between.
+// Awake, with turns between. It stays a `loop`: going takes as many events as it can, and there are seven ways out.
 fn awake(
     program: &[u16],
     start: Machine,
@@ -173,7 +160,7 @@ fn awake(
         if script[n] != 0 {
             return done(m, d, mode, room, first, n, false);
         }
-        let w = lent::fetch(program, d.pc as usize);
+        let w = lent::peek(program, d.pc as usize);
         let t = sh_turn::turn(m, d, memory, w);
         let r = t.core;
         m = t.machine;
@@ -196,14 +183,12 @@ fn cycles_by_one(script: &[u8], first: usize, end: usize) -> usize
     requires { (first ≤ end) × (end ≤ length script.now) }
     ensures { Cycles script.now first result end }
 {
-    let mut i = first;
-    while i < end {
+    for i in first..end {
         if script[i] != 0 {
             return i;
         }
-        i += 1;
     }
-    i
+    end
 }
 
 // Whether many cycles stand at a place.
@@ -211,13 +196,10 @@ fn many(script: &[u8], i: usize, end: usize) -> bool
     requires { (i ≤ end) × (end ≤ length script.now) }
     ensures { result ≡ true → Cycles script.now i (i + 64) end }
 {
-    if end - i < MANY {
-        return false;
-    }
-    lent::joined(script, i, i + MANY) == 0
+    MANY <= end - i && lent::joined(script, i, i + MANY) == 0
 }
 
-// Where the cycles end, many at a time as long as there are many.
+// Where the cycles end, many at a time as long as there are many: a `while`, since it ends at the first that are not all cycles.
 fn cycles(script: &[u8], first: usize, end: usize) -> usize
     requires { (first ≤ end) × (end ≤ length script.now) }
     ensures { Cycles script.now first result end }
@@ -266,6 +248,7 @@ pub fn unmoved(start: Machine, first: usize) -> Stretch
 }
 
 // In HALT, but not where PC stands at the target already: a cycle that leaves it there ends the run.
+#[tactic(auto, using(crate::proofs::Stretches::standing, crate::proofs::Stretches::onward_at))]
 fn dozing(
     program: &[u16],
     start: Machine,
@@ -286,6 +269,7 @@ fn dozing(
 }
 
 // By the mode: awake, or in HALT; in STOP nothing is clocked.
+#[tactic(auto, using(crate::proofs::Stretches::standing, crate::proofs::Stretches::onward_at))]
 fn moving(
     program: &[u16],
     start: Machine,
@@ -309,6 +293,7 @@ fn moving(
 }
 
 // Where the first event is a cycle.
+#[tactic(auto, using(crate::proofs::Stretches::standing, crate::proofs::Stretches::onward_at, crate::proofs::Stretches::quiet_by))]
 fn at_cycle(
     program: &[u16],
     start: Machine,
@@ -333,13 +318,7 @@ fn at_cycle(
 fn apart_cell(a: u16) -> bool
     ensures { result ≡ apart_cell a }
 {
-    if a == 0x04 {
-        return true;
-    }
-    if a == 0x05 {
-        return true;
-    }
-    a == 0x1E
+    matches!(a, 0x04 | 0x05 | 0x1E)
 }
 
 // Whether the word is a form with AC that names $004, $005 or $01E: no stretch takes it.
@@ -347,13 +326,11 @@ fn apart_cell(a: u16) -> bool
 fn apart(w: u16) -> bool
     ensures { result ≡ apart_of w }
 {
-    if w < 0x4000 {
-        return apart_cell(w % 1024);
-    }
-    false
+    w < 0x4000 && apart_cell(w % 1024)
 }
 
 // The events from the first on that are quiet cycles.
+#[tactic(auto, using(crate::proofs::Stretches::standing, crate::proofs::Stretches::onward_at))]
 pub fn ahead(
     program: &[u16],
     start: Machine,
@@ -368,7 +345,7 @@ pub fn ahead(
     if lent::peek(script, first) != 0 {
         return unmoved(start, first);
     }
-    if apart(lent::fetch(program, start.pc as usize)) {
+    if apart(lent::peek(program, start.pc as usize)) {
         return unmoved(start, first);
     }
     at_cycle(program, start, memory, script, first, target)

@@ -26,13 +26,11 @@ fn channels(c: Channels, memory: &[u8]) -> Channels
 
 // One sound clock; in STOP there is none.
 #[tactic(auto, unfolding(crate::specs::Sound::sound_of, sh_state::specs::Record::set_channels))]
-pub fn sound(m: Machine, memory: &[u8]) -> Machine
+pub fn sound(mut m: Machine, memory: &[u8]) -> Machine
     ensures { result ≡ sound_of m memory.now }
 {
-    if m.mode == 2 {
-        return m;
+    if m.mode != 2 {
+        m.channels = channels(m.channels, memory);
     }
-    let mut n = m;
-    n.channels = channels(m.channels, memory);
-    n
+    m
 }

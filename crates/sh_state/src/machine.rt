@@ -23,7 +23,8 @@ pub struct Machine {
     pub cy: u8,
     pub load: u8,
     pub counter: u8,
-    // 0 running, 1 HALT, 2 STOP
+    // 0 running, 1 HALT, 2 STOP; a number and no enum, as `pending` is no Option: a record that is read may hold any byte, and
+    // the rules judge it as it stands
     pub mode: u8,
     // 1 while a ROM read waits
     pub pending: u8,
@@ -75,26 +76,22 @@ impl Machine {
 
     // The machine with an entry pushed: the oldest of eight drops out.
     #[tactic(auto, unfolding(crate::specs::Record::push_of, crate::specs::Record::set_stack))]
-    pub fn push(self, v: u16) -> Machine
+    pub fn push(mut self, v: u16) -> Machine
         ensures { result ≡ push_of self v }
     {
         let s = self.stack;
-        let t = [v, s[0], s[1], s[2], s[3], s[4], s[5], s[6]];
-        let mut n = self;
-        n.stack = t;
-        n
+        self.stack = [v, s[0], s[1], s[2], s[3], s[4], s[5], s[6]];
+        self
     }
 
     // The machine with the newest entry taken: 0 enters at the bottom.
     #[tactic(auto, unfolding(crate::specs::Record::pop_of, crate::specs::Record::set_stack))]
-    pub fn pop(self) -> Machine
+    pub fn pop(mut self) -> Machine
         ensures { result ≡ pop_of self }
     {
         let s = self.stack;
-        let t = [s[1], s[2], s[3], s[4], s[5], s[6], s[7], 0];
-        let mut n = self;
-        n.stack = t;
-        n
+        self.stack = [s[1], s[2], s[3], s[4], s[5], s[6], s[7], 0];
+        self
     }
 
     // The newest entry.
@@ -102,8 +99,7 @@ impl Machine {
     pub fn newest(self) -> u16
         ensures { result ≡ newest_of self }
     {
-        let s = self.stack;
-        s[0]
+        self.stack[0]
     }
 }
 
@@ -117,10 +113,9 @@ pub fn entry(cy: u8, pc: u16) -> u16
 
 // The machine with its counter at an address.
 #[tactic(auto, unfolding(crate::specs::Record::set_pc))]
-pub fn with_pc(m: Machine, pc: u16) -> Machine
+pub fn with_pc(mut m: Machine, pc: u16) -> Machine
     ensures { result ≡ set_pc m pc }
 {
-    let mut n = m;
-    n.pc = pc;
-    n
+    m.pc = pc;
+    m
 }

@@ -1,4 +1,5 @@
 -- A quiet cycle: nothing is due, no read is pending and Timer0 has room. Awake, it is the word and a clock; in HALT, a clock.
+use Rattle.std.specs.Prelude.{Err, Ok, Result}
 use mathlib.Core.Path.{◌≡◌, ◌∙◌, refl, ap, sym}
 use mathlib.Core.Bool.{true, false}
 use mathlib.Core.List.{List}
@@ -13,8 +14,6 @@ use Rattle.lent.proofs.Laws.{by_choice, by_test, never}
 use Rattle.word.specs.declared.ImmediateOperation.{ImmediateOperation}
 use Rattle.word.specs.declared.ImmediateOperation.TheVariants.{Adi, Adim, Sbi, Sbim, Eorim, Orim, Andim}
 use Rattle.word.specs.declared.Instruction.TheVariants.{Accumulator, Memory, Lda, Sta, Immediate, Ldi, Branch, Call, Daa, Das, Rtnw, Rtni, Halt, Stop, Jmp, Shr, Tjmp, Nop}
-use Rattle.word.specs.declared.Decoded.{Decoded}
-use Rattle.word.specs.declared.Decoded.TheVariants.{Listed, Refused}
 use Rattle.word.specs.Word.{decode_of}
 use Rattle.alu.specs.declared.Sum.{Sum}
 use Rattle.sh_map.specs.Map.{askable_of}
@@ -33,6 +32,8 @@ use Rattle.sh_ticks.specs.Clock.{Quiet, timed_of, room_of}
 use Rattle.sh_core.proofs.Plain.{past_registers}
 use Rattle.sh_core.proofs.Right.{done_of, quick_right}
 use Rattle.sh_ticks.proofs.Ticks.{timed_more, clocked_core}
+use Rattle.refusal.specs.declared.Refusal.{Refusal}
+use Rattle.word.specs.declared.Instruction.{Instruction}
 
 -- What a word leaves in the memory: where it did not go everything, and always what lies below $020.
 module _ (c : Core) (l : List ℕ) where
@@ -59,27 +60,27 @@ module _ (c : Core) (l : List ℕ) where
     immediate_kept Orim i = put_kept _
     immediate_kept Andim i = put_kept _
 
-    word_kept : (d : Decoded) → Kept a (word_on_of c l a d)
+    word_kept : (d : Result Instruction Refusal) → Kept a (word_on_of c l a d)
     unfolding word_on_of instruction_on_of both_of stored_of
-    word_kept (Refused why) = still a _
-    word_kept (Listed (Accumulator o x)) = still a _
-    word_kept (Listed (Memory o x)) = put_kept _
-    word_kept (Listed (Lda x)) = still a _
-    word_kept (Listed (Sta x)) = put_kept _
-    word_kept (Listed (Immediate o x i)) = immediate_kept o i
-    word_kept (Listed (Ldi x i)) = put_kept _
-    word_kept (Listed (Branch k t)) = still a _
-    word_kept (Listed (Call t)) = still a _
-    word_kept (Listed (Daa x)) = still a _
-    word_kept (Listed (Das x)) = still a _
-    word_kept (Listed (Rtnw h v)) = still a _
-    word_kept (Listed Rtni) = still a _
-    word_kept (Listed Halt) = still a _
-    word_kept (Listed Stop) = still a _
-    word_kept (Listed (Jmp t)) = still a _
-    word_kept (Listed Shr) = still a _
-    word_kept (Listed Tjmp) = still a _
-    word_kept (Listed Nop) = still a _
+    word_kept (Err why) = still a _
+    word_kept (Ok (Accumulator o x)) = still a _
+    word_kept (Ok (Memory o x)) = put_kept _
+    word_kept (Ok (Lda x)) = still a _
+    word_kept (Ok (Sta x)) = put_kept _
+    word_kept (Ok (Immediate o x i)) = immediate_kept o i
+    word_kept (Ok (Ldi x i)) = put_kept _
+    word_kept (Ok (Branch k t)) = still a _
+    word_kept (Ok (Call t)) = still a _
+    word_kept (Ok (Daa x)) = still a _
+    word_kept (Ok (Das x)) = still a _
+    word_kept (Ok (Rtnw h v)) = still a _
+    word_kept (Ok Rtni) = still a _
+    word_kept (Ok Halt) = still a _
+    word_kept (Ok Stop) = still a _
+    word_kept (Ok (Jmp t)) = still a _
+    word_kept (Ok Shr) = still a _
+    word_kept (Ok Tjmp) = still a _
+    word_kept (Ok Nop) = still a _
 
   -- a word
   pub record Low (q : Quick) : Type 0 where
@@ -119,11 +120,11 @@ module _ (m : Machine) (e : m.pending ≡ 0) (f : m.address ≡ 0) where
   finished_quiet p s = rw e
 
   -- the word of a cycle, and then Timer0's clock
-  pub instructed_quiet : (p l : List ℕ) (d : Decoded) (t : State) → m.mode ≡ 0 → done_of (state m l) d ≡ happened false t → instructed_of p (state m l) d ≡ happened false (clock_of t)
+  pub instructed_quiet : (p l : List ℕ) (d : Result Instruction Refusal) (t : State) → m.mode ≡ 0 → done_of (state m l) d ≡ happened false t → instructed_of p (state m l) d ≡ happened false (clock_of t)
   unfolding instructed_of executed_of done_of
-  instructed_quiet p l (Listed i) t g h =
+  instructed_quiet p l (Ok i) t g h =
       rw (woken_quiet g, finished_quiet p (execute_of (state m l) i)) (ap (λ (r : Happened). happened false (clock_of r.after)) h)
-  instructed_quiet p l (Refused why) t g h = never (sym (ap (λ (r : Happened). r.stuck) h))
+  instructed_quiet p l (Err why) t g h = never (sym (ap (λ (r : Happened). r.stuck) h))
 
   pub awake_quiet : (p l : List ℕ) → m.mode ≡ 0 → due_of l ≡ 0 → cycle_of p (state m l) ≡ instructed_of p (state m l) (decode_of (at p m.pc))
   unfolding cycle_of cycle_due_of awake_of awake_cycle_of

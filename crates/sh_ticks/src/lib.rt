@@ -10,21 +10,15 @@ use sh_state::machine::Machine;
 use sh_timers::timer0;
 
 // A count of the ratio, the prescaler and n more.
+#[tactic(auto, using(crate::proofs::Ticks::product_below))]
 fn clocks(counter: u8, prescaler: u16, ratio: u16, n: u32) -> u64
     ensures { result ≡ counter * ratio + prescaler + n }
 {
     counter as u64 * ratio as u64 + prescaler as u64 + n as u64
 }
 
-fn left(counter: u8, prescaler: u16, ratio: u16) -> u32
-    requires { prescaler < ratio }
-    ensures { result ≡ 256 * ratio - (counter * ratio + prescaler + 1) }
-{
-    (256 * ratio as u64 - clocks(counter, prescaler, ratio, 1)) as u32
-}
-
 // The clocks until Timer0 would go past 255; none where the prescaler is past its ratio.
-#[tactic(auto, unfolding(crate::specs::Clock::room_of, crate::specs::Clock::clocks_of))]
+#[tactic(auto, using(crate::proofs::Ticks::clocks_left), unfolding(crate::specs::Clock::room_of, crate::specs::Clock::clocks_of))]
 pub fn room(m: Machine, mode: u8) -> u32
     ensures { result ≡ room_of m mode }
 {
@@ -33,28 +27,13 @@ pub fn room(m: Machine, mode: u8) -> u32
     }
     let ratio = sh_periods::ratio(mode);
     if m.prescaler < ratio {
-        return left(m.counter, m.prescaler, ratio);
+        return (256 * ratio as u64 - clocks(m.counter, m.prescaler, ratio, 1)) as u32;
     }
     0
 }
 
-fn prescaler_at(t: u64, ratio: u16) -> u16
-    requires { 0 < ratio }
-    ensures { result ≡ t % ratio }
-{
-    (t % ratio as u64) as u16
-}
-
-fn counter_at(t: u64, ratio: u16) -> u8
-    requires ratio_nonzero { 0 < ratio }
-    requires t_bound { t < 256 * ratio }
-    ensures { result ≡ t / ratio }
-{
-    (t / ratio as u64) as u8
-}
-
 // The machine after n clocks of Timer0, by the mode in $002.
-#[tactic(auto, unfolding(crate::specs::Clock::timed_of, crate::specs::Clock::clocks_of, sh_timers::specs::Ticked::time_set_of))]
+#[tactic(auto, using(crate::proofs::Ticks::timed_within, crate::proofs::Ticks::clocks_below, crate::proofs::Ticks::below_256, sh_rules::proofs::Fits::ratio_positive), unfolding(crate::specs::Clock::timed_of, crate::specs::Clock::clocks_of, sh_timers::specs::Ticked::time_set_of))]
 fn timed(m: Machine, mode: u8, n: u32) -> Machine
     requires room_nonzero { 0 < room_of m mode }
     requires n_bound { n ≤ room_of m mode }
@@ -69,7 +48,7 @@ fn timed(m: Machine, mode: u8, n: u32) -> Machine
         return timer0::time_set(m, p as u16, m.counter);
     }
     let t = clocks(m.counter, m.prescaler, ratio, n);
-    timer0::time_set(m, prescaler_at(t, ratio), counter_at(t, ratio))
+    timer0::time_set(m, (t % ratio as u64) as u16, (t / ratio as u64) as u8)
 }
 
 #[tactic(auto, unfolding(sh_core::specs::Quick::core_in, sh_state::specs::Record::set_pc, sh_state::specs::Record::set_cy, sh_state::specs::Record::set_ac))]

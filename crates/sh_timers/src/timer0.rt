@@ -1,49 +1,37 @@
 // Timer0: eight bits that count system clocks through a prescaler, or falling edges of PORTA.0.
-ghost use Rattle.std.specs.Prelude.{◌≡◌};
-ghost use Rattle.sh_timers.specs.Timer0.{reload_of, counted_of, fallen_of};
-ghost use Rattle.sh_state.specs.Record.{set_counter};
-ghost use Rattle.sh_timers.specs.Request.{moved};
+ghost use Rattle.std.specs.Prelude.{◌≡◌, ◌/◌, ◌%◌, eqb};
+ghost use Rattle.lent.specs.Lent.{pick};
+ghost use Rattle.sh_timers.specs.Timer0.{counted_of, fallen_of};
 ghost use Rattle.sh_timers.specs.Ticked.{ticked_by, ticked_of, time_set_of};
 
 use crate::request::Moved;
 use sh_state::machine::Machine;
 
-#[tactic(auto, unfolding(crate::specs::Timer0::reload_of))]
-fn reload(m: Machine, mode: u8) -> u8
-    ensures { result ≡ reload_of m mode }
+// What follows 255: the load with auto-reload, else 0.
+fn reload(load: u8, mode: u8) -> u8
+    ensures { result ≡ pick (eqb (mode / 8 % 2) 1) load 0 }
 {
-    if mode / 8 % 2 == 1 {
-        return m.load;
-    }
-    0
+    if mode / 8 % 2 == 1 { load } else { 0 }
 }
 
-#[tactic(auto, unfolding(sh_state::specs::Record::set_counter))]
-fn count_to(m: Machine, v: u8, bits: u8) -> Moved
-    ensures { result ≡ moved (set_counter m v) bits }
-{
-    let mut n = m;
-    n.counter = v;
-    Moved {
-        machine: n,
-        requests: bits,
-    }
-}
-
-fn overflowed(m: Machine, mode: u8) -> Moved
-    ensures { result ≡ moved (set_counter m (reload_of m mode)) 4 }
-{
-    count_to(m, reload(m, mode), 4)
-}
-
-#[tactic(auto, unfolding(crate::specs::Timer0::counted_of))]
-fn counted(m: Machine, mode: u8) -> Moved
+// One count. The base timer's differs in the record's field and has no reload.
+#[tactic(auto, unfolding(crate::specs::Timer0::counted_of, crate::specs::Timer0::reload_of, sh_state::specs::Record::set_counter))]
+fn counted(mut m: Machine, mode: u8) -> Moved
     ensures { result ≡ counted_of m mode }
 {
     if m.counter < 255 {
-        return count_to(m, m.counter + 1, 0);
+        m.counter += 1;
+        Moved {
+            machine: m,
+            requests: 0,
+        }
+    } else {
+        m.counter = reload(m.load, mode);
+        Moved {
+            machine: m,
+            requests: 4,
+        }
     }
-    overflowed(m, mode)
 }
 
 // Timer0's own part of a clock: what its prescaler and counter become, and the bits of $001 that are set.
@@ -80,16 +68,9 @@ fn ticked_by(prescaler: u16, counter: u8, load: u8, mode: u8, ratio: u16) -> Tic
             requests: 0,
         };
     }
-    if mode / 8 % 2 == 1 {
-        return Tick {
-            prescaler: 0,
-            counter: load,
-            requests: 4,
-        };
-    }
     Tick {
         prescaler: 0,
-        counter: 0,
+        counter: reload(load, mode),
         requests: 4,
     }
 }
@@ -104,13 +85,12 @@ pub fn ticked(prescaler: u16, counter: u8, load: u8, mode: u8) -> Tick
 
 // The record with Timer0's prescaler and counter.
 #[tactic(auto, unfolding(crate::specs::Ticked::time_set_of, sh_state::specs::Record::set_counter, sh_state::specs::Record::set_prescaler))]
-pub fn time_set(m: Machine, prescaler: u16, counter: u8) -> Machine
+pub fn time_set(mut m: Machine, prescaler: u16, counter: u8) -> Machine
     ensures { result ≡ time_set_of m prescaler counter }
 {
-    let mut n = m;
-    n.prescaler = prescaler;
-    n.counter = counter;
-    n
+    m.prescaler = prescaler;
+    m.counter = counter;
+    m
 }
 
 // A falling edge of PORTA.0 as input (1), or none (0), by the mode in $002.
@@ -118,19 +98,7 @@ pub fn time_set(m: Machine, prescaler: u16, counter: u8) -> Machine
 pub fn fallen(m: Machine, mode: u8, falling: u8) -> Moved
     ensures { result ≡ fallen_of m mode falling }
 {
-    if falling == 0 {
-        return Moved {
-            machine: m,
-            requests: 0,
-        };
-    }
-    if m.mode == 2 {
-        return Moved {
-            machine: m,
-            requests: 0,
-        };
-    }
-    if mode % 8 == 7 {
+    if falling != 0 && m.mode != 2 && mode % 8 == 7 {
         return counted(m, mode);
     }
     Moved {

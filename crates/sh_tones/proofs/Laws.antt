@@ -1,22 +1,11 @@
 -- What the definitions say in each of their cases.
 use mathlib.Core.Path.{◌≡◌}
-use mathlib.Core.Bool.{Bool, true, false}
-use Prim.Native.Nat.{ℕ, ◌-◌, ◌*◌, ◌<◌, ◌≤◌}
+use mathlib.Core.Bool.{Bool, true}
+use Prim.Native.Nat.{ℕ, ◌-◌, ◌<◌, ◌≤◌}
 use native.Mathlib.Omega.{arith}
 use borrow.Author.Tests.{eq-eqb, ne_eqb}
-use Rattle.tones.specs.Tones.{divider_of}
 use Rattle.sh_tones.specs.declared.Channel.{Channel}
 use Rattle.sh_tones.specs.Tone.{channel, length_of, turned_of, fallen_of, clocked_of, holds_of, sounded_by}
-
--- what a count of 0 is set to, with the octave bit and without
-module _ (v octave : ℕ) {n : ℕ} (e : n ≡ divider_of v) where
-  pub length_long : octave ≡ 1 → 8 * n ≡ length_of v octave
-  unfolding length_of
-  length_long h = rw (eq-eqb octave 1 h, e)
-
-  pub length_short : (octave ≡ 1 → ⊥) → n ≡ length_of v octave
-  unfolding length_of
-  length_short h = rw (ne_eqb octave 1 h, e)
 
 -- a count falls to 0 from 1 or 0, else by one
 pub falls_to_0 : (n o : ℕ) {t : ℕ} → n < 2 → t ≡ turned_of o → channel 0 t ≡ fallen_of n o
@@ -37,16 +26,7 @@ module _ (c : Channel) (length : ℕ) {r : Channel} where
   unfolding clocked_of
   clock_above h e = rw (ne_eqb c.count 0 h, e)
 
--- a channel that is disabled, that has the value 0, or that runs
-module _ (c : Channel) (enabled : Bool) (v octave : ℕ) where
-  pub disabled : enabled ≡ false → c ≡ sounded_by c enabled v octave
-  unfolding sounded_by holds_of
-  disabled e = rw e
-
-  pub valueless : enabled ≡ true → v ≡ 0 → c ≡ sounded_by c enabled v octave
-  unfolding sounded_by holds_of
-  valueless e h = rw (e, eq-eqb v 0 h)
-
-  pub runs : {r : Channel} → enabled ≡ true → (v ≡ 0 → ⊥) → r ≡ clocked_of c (length_of v octave) → r ≡ sounded_by c enabled v octave
-  unfolding sounded_by holds_of
-  runs e h p = rw (e, ne_eqb v 0 h, p)
+-- a channel that is enabled and has a value runs
+pub runs : (c : Channel) (enabled : Bool) (v octave : ℕ) {r : Channel} → enabled ≡ true → (v ≡ 0 → ⊥) → r ≡ clocked_of c (length_of v octave) → r ≡ sounded_by c enabled v octave
+unfolding sounded_by holds_of
+runs c enabled v octave e h p = rw (e, ne_eqb v 0 h, p)

@@ -4,7 +4,8 @@
 ghost use Rattle.std.specs.Prelude.{◌≡◌};
 ghost use Rattle.sh_tones.specs.Tone.{value_of, length_of, turned_of, fallen_of, sounded_by, sounded_of, channel1_of, channel2_of, channel_fits, silent_of, channels_fit};
 
-// What a channel keeps between two sound clocks: its remaining count, and its output.
+// What a channel keeps between two sound clocks: its remaining count, and its output, a byte and no bool, since a record that is read may
+// hold any, and `fit` judges it as it stands.
 #[derive(Clone, Copy)]
 pub struct Channel {
     pub count: u16,
@@ -18,6 +19,7 @@ pub struct Channels {
     pub second: Channel,
 }
 
+// A channel's value of seven bits, by its two nibbles.
 #[tactic(auto, unfolding(crate::specs::Tone::value_of))]
 fn value(low: u8, high: u8) -> u8
     ensures { result ≡ value_of low high }
@@ -25,61 +27,55 @@ fn value(low: u8, high: u8) -> u8
     16 * (high % 8) + low % 16
 }
 
+// What a count of 0 is set to: N, or 8N with the octave bit.
+#[tactic(auto, unfolding(crate::specs::Tone::length_of))]
 fn length(v: u8, octave: u8) -> u16
     ensures { result ≡ length_of v octave }
 {
     let n = tones::divider(v) as u16;
-    if octave == 1 {
-        return 8 * n;
-    }
-    n
+    if octave == 1 { 8 * n } else { n }
 }
 
+// An output that turns over.
 #[tactic(auto, unfolding(crate::specs::Tone::turned_of))]
 fn turned(output: u8) -> u8
     ensures { result ≡ turned_of output }
 {
-    if output == 0 {
-        return 1;
-    }
-    0
+    u8::from(output == 0)
 }
 
+// A count that falls by one; at 0 the output turns over.
+#[tactic(auto, unfolding(crate::specs::Tone::fallen_of))]
 fn fallen(count: u16, output: u8) -> Channel
     ensures { result ≡ fallen_of count output }
 {
     if count < 2 {
-        return Channel {
+        Channel {
             count: 0,
             output: turned(output),
-        };
+        }
+    } else {
+        Channel {
+            count: count - 1,
+            output,
+        }
     }
-    Channel {
-        count: count - 1,
-        output,
-    }
-}
-
-fn begun(v: u8, octave: u8, output: u8) -> Channel
-    ensures { result ≡ fallen_of (length_of v octave) output }
-{
-    fallen(length(v, octave), output)
 }
 
 // N is looked up only where a count of 0 is set.
+#[tactic(auto, unfolding(crate::specs::Tone::sounded_by, crate::specs::Tone::holds_of, crate::specs::Tone::clocked_of))]
 fn sounded_by(c: Channel, enabled: bool, v: u8, octave: u8) -> Channel
     ensures { result ≡ sounded_by c enabled v octave }
 {
-    if enabled {
-        if v == 0 {
-            return c;
-        }
-        if c.count == 0 {
-            return begun(v, octave, c.output);
-        }
-        return fallen(c.count, c.output);
+    if !enabled || v == 0 {
+        return c;
     }
-    c
+    let count = if c.count == 0 {
+        length(v, octave)
+    } else {
+        c.count
+    };
+    fallen(count, c.output)
 }
 
 // One sound clock of a channel, by whether it is enabled and by the two nibbles of its value and octave bit.
@@ -103,12 +99,7 @@ pub fn channel1(c: Channel, enables: u8, low: u8, high: u8) -> Channel
 pub fn channel2(c: Channel, modes: u8, enables: u8, low: u8, high: u8) -> Channel
     ensures { result ≡ channel2_of c modes enables low high }
 {
-    sounded(
-        c,
-        lent::both(enables / 2 % 2 == 1, modes % 4 == 0),
-        low,
-        high,
-    )
+    sounded(c, enables / 2 % 2 == 1 && modes % 4 == 0, low, high)
 }
 
 // Both channels after a reset.
@@ -116,26 +107,22 @@ pub fn channel2(c: Channel, modes: u8, enables: u8, low: u8, high: u8) -> Channe
 pub fn silent() -> Channels
     ensures { result ≡ silent_of }
 {
+    let still = Channel {
+        count: 0,
+        output: 0,
+    };
     Channels {
-        first: Channel {
-            count: 0,
-            output: 0,
-        },
-        second: Channel {
-            count: 0,
-            output: 0,
-        },
+        first: still,
+        second: still,
     }
 }
 
+// Whether a record may hold one channel so.
 #[tactic(auto, unfolding(crate::specs::Tone::channel_fits))]
 fn fits(c: Channel) -> bool
     ensures { result ≡ channel_fits c }
 {
-    if c.count <= 1015 {
-        return c.output <= 1;
-    }
-    false
+    c.count <= 1015 && c.output <= 1
 }
 
 // Whether a record may hold the channels so: each with a count of 1,015 at most, and an output of 0 or 1.
@@ -143,5 +130,5 @@ fn fits(c: Channel) -> bool
 pub fn fit(c: Channels) -> bool
     ensures { result ≡ channels_fit c }
 {
-    lent::both(fits(c.first), fits(c.second))
+    fits(c.first) && fits(c.second)
 }

@@ -1,8 +1,9 @@
 -- A turn does to the machine what its instruction does.
+use Rattle.std.specs.Prelude.{Ok}
 use mathlib.Core.Path.{◌≡◌, ◌∙◌, refl, ap, sym}
 use mathlib.Core.Bool.{Bool, true, false}
 use mathlib.Core.List.{List}
-use Prim.Native.Nat.{ℕ, ◌+◌, ◌-◌, ◌/◌, ◌%◌, ◌<◌, ◌≤◌}
+use Prim.Native.Nat.{ℕ, ◌+◌, ◌/◌, ◌%◌, ◌<◌, ◌≤◌}
 use native.Mathlib.Omega.{arith}
 use lib.Dec.{ltb, eqb}
 use lib.ListN.{set}
@@ -11,10 +12,8 @@ use Rattle.lent.specs.Lent.{pick, at}
 use Rattle.lent.proofs.Laws.{test, by_test, by_eq, by_lt, never}
 use Rattle.word.proofs.Every.{every, every_at}
 use Rattle.word.specs.declared.Operation.{Operation}
-use Rattle.word.specs.declared.Operation.TheVariants as Operation
 use Rattle.word.specs.declared.Instruction.{Instruction}
 use Rattle.word.specs.declared.Instruction.TheVariants.{Accumulator, Memory, Lda, Sta, Immediate, Ldi, Call, Daa, Das, Rtnw, Rtni, Tjmp}
-use Rattle.word.specs.declared.Decoded.TheVariants.{Listed}
 use Rattle.word.specs.Codes.{operation_of, immediate_of}
 use Rattle.word.specs.Word.{decode_of, accumulator_of, transfer_of, control_of}
 use Rattle.alu.specs.declared.Sum.{Sum}
@@ -31,14 +30,10 @@ use Rattle.sh_cycle.specs.Cycle.{happened}
 use Rattle.sh_core.specs.declared.Core.{Core}
 use Rattle.sh_core.specs.Quick.{Quick, quickly, stays_of, got_of, gone_of, put_of}
 use Rattle.sh_core.specs.Quick.{core_in}
-use Rattle.sh_turn.specs.declared.Turned.{Turned}
 use Rattle.sh_turn.specs.Turn.{Turn, turning, shown_of, mask_of, readable_of, writable_of, put_masked_of, put_register_of, takes_of, code_of, writes_of, transferred_of, ac_result_of, immediate_result_of, ac_word_of, immediate_word_of, cell_turn_of, adjusted_of, decimal_of, table_of, other_turn_of, called_of, returned_of, returned_with_of, alone_of, turn_of}
 use Rattle.sh_core.proofs.Plain.{value_plain, seen_plain}
 use Rattle.sh_core.proofs.Words.{past}
 use Rattle.sh_core.proofs.Right.{done_of, inside, took_core, put_right, low_word, middle_word, stays_never}
-
-pub turning_at : {r s : Turned} {l : List ℕ} → r ≡ s → turning r l ≡ turning s l
-turning_at {l = l} p = ap (λ (k : Turned). turning k l) p
 
 -- Registers whose read does nothing.
 pub record Readable (a : ℕ) : Type 0 where
@@ -140,7 +135,7 @@ module _ (m : Machine) (c : Core) (l : List ℕ) (w : ℕ) where
   pub Does : Quick → Type 0
   Does q = q.core.went ≡ true → done_of (state (core_in m c) l) (decode_of w) ≡ happened false (inside m q)
 
-  by_listed : (i : Instruction) (q : Quick) → decode_of w ≡ Listed i → (q.core.went ≡ true → execute_of (state (core_in m c) l) i ≡ inside m q) → Does q
+  by_listed : (i : Instruction) (q : Quick) → decode_of w ≡ Ok i → (q.core.went ≡ true → execute_of (state (core_in m c) l) i ≡ inside m q) → Does q
   unfolding Does done_of
   by_listed i q d f g = rw d (ap (λ (s : State). happened false s) (f g))
 
@@ -233,7 +228,7 @@ module _ (m : Machine) (c : Core) (l : List ℕ) (w : ℕ) where
   unfoldable pub Turns : Turn → Type 0
   Turns t = t.core.went ≡ true → done_of (state (core_in m c) l) (decode_of w) ≡ happened false (state (core_in t.machine t.core) t.memory)
 
-  turn_listed : (i : Instruction) (t : Turn) → decode_of w ≡ Listed i → execute_of (state (core_in m c) l) i ≡ state (core_in t.machine t.core) t.memory → Turns t
+  turn_listed : (i : Instruction) (t : Turn) → decode_of w ≡ Ok i → execute_of (state (core_in m c) l) i ≡ state (core_in t.machine t.core) t.memory → Turns t
   unfolding Turns done_of
   turn_listed i t d f _ = rw d (ap (λ (s : State). happened false s) f)
 

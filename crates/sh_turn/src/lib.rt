@@ -26,19 +26,13 @@ pub struct Turned {
 fn shown(m: Machine, memory: &[u8], a: u16) -> u8
     ensures { result ≡ shown_of m memory.now a }
 {
-    if a == 0x08 {
-        return sh_cells::port_cell(m.pina, memory, 0x08, 0x16);
+    match a {
+        0x08 => sh_cells::port_cell(m.pina, memory, 0x08, 0x16),
+        0x09 => sh_cells::port_cell(m.pinb, memory, 0x09, 0x17),
+        0x0A => sh_cells::port_cell(m.pinc, memory, 0x0A, 0x18),
+        0x0B => sh_cells::port_cell(m.pind, memory, 0x0B, 0x19),
+        _ => map::cell(memory, a),
     }
-    if a == 0x09 {
-        return sh_cells::port_cell(m.pinb, memory, 0x09, 0x17);
-    }
-    if a == 0x0A {
-        return sh_cells::port_cell(m.pinc, memory, 0x0A, 0x18);
-    }
-    if a == 0x0B {
-        return sh_cells::port_cell(m.pind, memory, 0x0B, 0x19);
-    }
-    map::cell(memory, a)
 }
 
 // The bits that a write to a register stores.
@@ -46,31 +40,13 @@ fn shown(m: Machine, memory: &[u8], a: u16) -> u8
 fn mask(a: u16) -> u8
     ensures { result ≡ mask_of a }
 {
-    if a == 0x06 {
-        return 0;
+    match a {
+        0x06 | 0x0F | 0x1F => 0,
+        0x07 | 0x11 | 0x12 => 7,
+        0x0C => 12,
+        0x14 => 11,
+        _ => 15,
     }
-    if a == 0x07 {
-        return 7;
-    }
-    if a == 0x0C {
-        return 12;
-    }
-    if a == 0x0F {
-        return 0;
-    }
-    if a == 0x11 {
-        return 7;
-    }
-    if a == 0x12 {
-        return 7;
-    }
-    if a == 0x14 {
-        return 11;
-    }
-    if a == 0x1F {
-        return 0;
-    }
-    15
 }
 
 // A register whose read does nothing and shows no clock.
@@ -78,19 +54,7 @@ fn mask(a: u16) -> u8
 fn readable(a: u16) -> bool
     ensures { result ≡ readable_of a }
 {
-    if a < 0x20 {
-        if a == 0x04 {
-            return false;
-        }
-        if a == 0x05 {
-            return false;
-        }
-        if a == 0x1E {
-            return false;
-        }
-        return true;
-    }
-    false
+    a < 0x20 && !matches!(a, 0x04 | 0x05 | 0x1E)
 }
 
 // A register whose write does nothing to the record.
@@ -98,19 +62,7 @@ fn readable(a: u16) -> bool
 fn writable(a: u16) -> bool
     ensures { result ≡ writable_of a }
 {
-    if a < 0x02 {
-        return true;
-    }
-    if a < 0x06 {
-        return false;
-    }
-    if a == 0x1A {
-        return false;
-    }
-    if a == 0x1E {
-        return false;
-    }
-    true
+    !matches!(a, 0x02..=0x05 | 0x1A | 0x1E)
 }
 
 // The result's bits where the mask has a 1, the others as they were: the choice that a port makes between latch and pin.
@@ -148,38 +100,20 @@ fn takes(c: Core, memory: &mut [u8], a: u16, r: Sum, writes: bool) -> Core
 fn operation_with(code: u16) -> Operation
     ensures { result ≡ code_of code }
 {
-    if code == 8 {
-        return Operation::Add;
+    match code {
+        8 | 9 => Operation::Add,
+        10 | 11 => Operation::Sub,
+        12 => Operation::Eor,
+        13 => Operation::Or,
+        _ => Operation::And,
     }
-    if code == 9 {
-        return Operation::Add;
-    }
-    if code == 10 {
-        return Operation::Sub;
-    }
-    if code == 11 {
-        return Operation::Sub;
-    }
-    if code == 12 {
-        return Operation::Eor;
-    }
-    if code == 13 {
-        return Operation::Or;
-    }
-    Operation::And
 }
 
 #[tactic(auto, unfolding(crate::specs::Turn::writes_of))]
 fn writes(code: u16) -> bool
     ensures { result ≡ writes_of code }
 {
-    if code == 8 {
-        return false;
-    }
-    if code == 10 {
-        return false;
-    }
-    true
+    !matches!(code, 8 | 10)
 }
 
 #[tactic(auto, unfolding(crate::specs::Turn::transferred_of))]
@@ -264,13 +198,11 @@ fn adjusted(c: Core, memory: &mut [u8], w: u16, a: u16) -> Core
     ensures { quickly result memory.new ≡ adjusted_of c memory.old w a }
 {
     let x = map::cell(memory, a);
-    if w / 128 == 0x196 {
-        return sh_core::put(c, memory, a, alu::decimal_added(x, c.cy));
+    match w / 128 {
+        0x196 => sh_core::put(c, memory, a, alu::decimal_added(x, c.cy)),
+        0x19A => sh_core::put(c, memory, a, alu::decimal_subtracted(x, c.cy)),
+        _ => sh_core::stays(c),
     }
-    if w / 128 == 0x19A {
-        return sh_core::put(c, memory, a, alu::decimal_subtracted(x, c.cy));
-    }
-    sh_core::stays(c)
 }
 
 #[tactic(auto, unfolding(crate::specs::Turn::decimal_of))]

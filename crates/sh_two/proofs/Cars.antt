@@ -2,7 +2,7 @@
 use mathlib.Core.Path.{◌≡◌, ◌∙◌, refl, ap, sym}
 use mathlib.Core.Bool.{Bool, true, false}
 use mathlib.Core.List.{List, [], ◌∷◌, append-nil}
-use Prim.Native.Nat.{ℕ, zero, suc, ◌+◌, ◌≤◌}
+use Prim.Native.Nat.{ℕ, zero, suc, ◌+◌, ◌≤◌, max}
 use native.Mathlib.Omega.{arith}
 use native.Mathlib.Nat.{le_refl}
 use borrow.Author.Tests.{le-ltb}
@@ -13,7 +13,7 @@ use Rattle.sh_run.specs.declared.Stop.{Stop}
 use Rattle.sh_run.specs.declared.Stop.TheVariants as stop
 use Rattle.sh_run.specs.Run.{run_of}
 use Rattle.sh_two.specs.Two.{Entry, Car, car, car_ran, stopped_of, taken_of, Cars, cars, of_car, passed_of, ended_of, Two, two, two_of, own_of}
-use Rattle.sh_two.specs.Alone.{Alone, alone, alone_of, on_of, later_of}
+use Rattle.sh_two.specs.Alone.{Alone, alone, alone_of, on_of}
 use Rattle.sh_two.proofs.ByItself.{stays, by_parts}
 
 -- the run reads no fewer entries than were read before
@@ -26,7 +26,7 @@ alone_from p (x ∷ xs) c n =
 
 -- both cars by themselves, and the later of their counts
 abbrev apart : Alone → Alone → Two
-apart a b = two (cars a.after b.after) (later_of a.entries b.entries)
+apart a b = two (cars a.after b.after) (max a.entries b.entries)
 
 both_turned : (a b : Bool) → both a b ≡ both b a
 both_turned true true = refl
@@ -37,13 +37,11 @@ both_turned false false = refl
 abbrev turned : Two → Two
 turned r = two (cars r.after.second r.after.first) r.entries
 
-later_first : {a b : ℕ} → b ≤ a → later_of a b ≡ a
-unfolding later_of
-later_first {a} {b} h = rw (le-ltb a b h)
+max_first : {a b : ℕ} → b ≤ a → max a b ≡ a
+max_first h = omega arith
 
-later_second : {a b : ℕ} → a ≤ b → later_of a b ≡ b
-unfolding later_of
-later_second {a} {b} h = by_lt (λ (v : ℕ). v ≡ b) a b b a (λ _. refl) (λ g. omega arith)
+max_second : {a b : ℕ} → a ≤ b → max a b ≡ b
+max_second h = omega arith
 
 module _ (p : List ℕ) where
   -- neither car is before the other
@@ -66,20 +64,20 @@ module _ (p : List ℕ) where
 
   pub by_themselves : (xs : List Entry) (a b : Car) (n : ℕ) → two_of p xs (cars a b) n ≡ apart (alone_of p xs a n) (alone_of p xs b n)
   unfolding two_of alone_of passed_of ended_of
-  by_themselves [] a b n = rw (later_first (le_refl n))
+  by_themselves [] a b n = rw (max_first (le_refl n))
   by_themselves (x ∷ xs) a b n =
       let a' = taken_of p x a in
       let b' = taken_of p x b in
       test (stopped_of a'.why)
       (λ t. test (stopped_of b'.why)
-      (λ u. rw (t, u, later_first (le_refl (n + 1))))
-      (λ u. rw (t, u, other_stopped xs a' b' (n + 1) t u, later_second (alone_from p xs b' (n + 1)))))
+      (λ u. rw (t, u, max_first (le_refl (n + 1))))
+      (λ u. rw (t, u, other_stopped xs a' b' (n + 1) t u, max_second (alone_from p xs b' (n + 1)))))
       (λ f. test (stopped_of b'.why)
-      (λ u. rw (f, u, two_turned xs a' b' (n + 1), other_stopped xs b' a' (n + 1) u f, later_first (alone_from p xs a' (n + 1))))
+      (λ u. rw (f, u, two_turned xs a' b' (n + 1), other_stopped xs b' a' (n + 1) u f, max_first (alone_from p xs a' (n + 1))))
       (λ u. rw (f, u) (by_themselves xs a' b' (n + 1))))
 
 -- as the run finds it
-pub both_ran : (p : List ℕ) (xs : List Entry) (a b : Car) {v w : Alone} {n : ℕ} → v ≡ alone_of p xs a 0 → w ≡ alone_of p xs b 0 → n ≡ later_of v.entries w.entries → two (cars v.after w.after) n ≡ two_of p xs (cars a b) 0
+pub both_ran : (p : List ℕ) (xs : List Entry) (a b : Car) {v w : Alone} {n : ℕ} → v ≡ alone_of p xs a 0 → w ≡ alone_of p xs b 0 → n ≡ max v.entries w.entries → two (cars v.after w.after) n ≡ two_of p xs (cars a b) 0
 both_ran p xs a b {v} {w} e f g = ap (λ (k : ℕ). two (cars v.after w.after) k) g ∙ (ap (λ (u : Alone). apart u w) e ∙ (ap (λ (u : Alone). apart (alone_of p xs a 0) u) f ∙ sym (by_themselves p xs a b 0)))
 
 -- no entry is left

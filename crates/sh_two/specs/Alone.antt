@@ -1,5 +1,5 @@
 -- One car over the entries of both, as the run finds it: part by part.
-use Rattle.std.specs.Prelude.{ℕ, ◌+◌, ◌-◌, ◌*◌, ◌/◌, ◌<◌, ◌≤◌, ◌≡◌, false, List, [], ◌∷◌, ltb, eqb, length, take, drop}
+use Rattle.std.specs.Prelude.{ℕ, ◌+◌, ◌-◌, ◌*◌, ◌/◌, ◌<◌, ◌≤◌, ◌≡◌, false, List, [], ◌∷◌, eqb, length, take, drop}
 use Rattle.lent.specs.Lent.{pick}
 use Rattle.sh_run.specs.declared.Stop.{Stop}
 use Rattle.sh_run.specs.declared.Stop.TheVariants as stop
@@ -45,7 +45,3 @@ read_of k part stop.End n = length part
 pub record Parted (p : List ℕ) (script : List ℕ) (c : Car) (first : ℕ) (d : Car) (n : ℕ) : Type 0 where
   pub same : on_of p (from script n) d n ≡ alone_of p (from script first) c first
   pub on : stopped_of d.why ≡ false → (first < n) × (n ≤ length script / 2)
-
--- the later of two counts
-unfoldable pub later_of : ℕ → ℕ → ℕ
-later_of a b = pick (ltb a b) b a

@@ -5,7 +5,7 @@ ghost use Rattle.std.specs.Prelude.{◌*◌, ◌+◌, ◌-◌, ◌/◌, ◌<◌,
 ghost use Rattle.sh_state.specs.State.{state};
 ghost use Rattle.sh_run.specs.declared.Stop.TheVariants as stop;
 ghost use Rattle.sh_two.specs.Two.{entries_of, car, stopped_of, own_of, cars, start_of, two, two_of};
-ghost use Rattle.sh_two.specs.Alone.{alone, alone_of, part_of, through_of, read_of, Parted, later_of};
+ghost use Rattle.sh_two.specs.Alone.{alone, alone_of, part_of, through_of, read_of, Parted};
 
 use sh_run::Stop;
 use sh_state::machine::Machine;
@@ -18,50 +18,45 @@ fn end(first: usize, all: usize) -> usize
     requires { first < all }
     ensures { (first < result) × (result ≤ all) × (result ≤ first + 1024) }
 {
-    if all - first < MANY {
-        return all;
-    }
-    first + MANY
+    first + MANY.min(all - first)
 }
 
 // The car's events one after the other: each event is stored, and stays where the entry is the car's.
+#[tactic(auto, using(crate::proofs::Parts::gathered_own, crate::proofs::Parts::gathered_other, crate::proofs::Parts::gathered_all))]
 fn gather(script: &[u8], number: u8, first: usize, end: usize, events: &mut [u8]) -> usize
     requires { (first ≤ end) × (end * 2 ≤ length script.now) × (end ≤ first + length events.old) }
     ensures { (result ≤ end - first) × (take result events.new ≡ own_of number (part_of script.now first end)) }
 {
     let mut n: usize = 0;
-    let mut i = first;
-    while i < end {
+    for i in first..end {
         events[n] = script[i * 2 + 1];
         if script[i * 2] == number {
             n += 1;
         }
-        i += 1;
     }
     n
 }
 
 // How many entries there are up to the car's entry number j, counted from 1, with it.
+#[tactic(auto, using(crate::proofs::Parts::through_own, crate::proofs::Parts::through_other, crate::proofs::Parts::through_all, crate::proofs::ByItself::through_none))]
 fn through(script: &[u8], number: u8, first: usize, end: usize, j: usize) -> usize
     requires { (first ≤ end) × (end * 2 ≤ length script.now) }
     ensures { (result ≡ through_of number (part_of script.now first end) j) × (result ≤ end - first) }
 {
     let mut left = j;
-    let mut i = first;
-    while i < end {
+    for i in first..end {
         if left == 0 {
             return i - first;
         }
         if script[i * 2] == number {
             left -= 1;
         }
-        i += 1;
     }
-    i - first
+    end - first
 }
 
 // How many entries of a part are read where a run of the car's own did n events.
-#[tactic(auto, unfolding(crate::specs::Alone::read_of))]
+#[tactic(auto, using(crate::proofs::Parts::part_length, crate::proofs::Onward::read_at), unfolding(crate::specs::Alone::read_of))]
 fn read(script: &[u8], number: u8, first: usize, end: usize, why: Stop, n: usize) -> usize
     requires { (first ≤ end) × (end * 2 ≤ length script.now) × (n ≤ 1024) }
     ensures { (result ≡ read_of number (part_of script.now first end) why n) × (result ≤ end - first) }
@@ -78,11 +73,7 @@ fn read(script: &[u8], number: u8, first: usize, end: usize, why: Stop, n: usize
 fn stopped(why: Stop) -> bool
     ensures { result ≡ stopped_of why }
 {
-    match why {
-        Stop::Address => true,
-        Stop::Unlisted => true,
-        Stop::End => false,
-    }
+    matches!(why, Stop::Address | Stop::Unlisted)
 }
 
 // A car's machine, why it stopped, and how many entries of both are read.
@@ -110,16 +101,15 @@ fn part(
     let mut events = [0u8; 1024];
     let n = gather(script, number, first, end, &mut events);
     let e = sh_run::run(program, start, memory, &events[..n], target);
-    let m = e.machine;
-    let why = e.why;
     Alone {
-        machine: m,
-        why,
-        entries: first + read(script, number, first, end, why, e.events),
+        machine: e.machine,
+        why: e.why,
+        entries: first + read(script, number, first, end, e.why, e.events),
     }
 }
 
-// A car by itself over the entries of both.
+// A car by itself over the entries of both: a `while`, since each part says how far it came.
+#[tactic(auto, using(crate::proofs::Onward::alone_end, crate::proofs::Onward::parted_stopped, crate::proofs::Onward::parted_upto, crate::proofs::Onward::parted_on))]
 fn by_itself(
     program: &[u16],
     start: Machine,
@@ -130,38 +120,22 @@ fn by_itself(
 ) -> Alone
     ensures { alone (car number target (state result.machine memory.new) result.why) result.entries ≡ alone_of program.now (entries_of script.now) (car number target (state start memory.old) stop.End) 0 }
 {
+    let all = script.len() / 2;
     let mut m = start;
     let mut i: usize = 0;
-    loop {
-        if script.len() / 2 <= i {
-            return Alone {
-                machine: m,
-                why: Stop::End,
-                entries: i,
-            };
-        }
+    while i < all {
         let q = part(program, m, memory, script, number, target, i);
-        let why = q.why;
+        if stopped(q.why) {
+            return q;
+        }
         m = q.machine;
         i = q.entries;
-        if stopped(why) {
-            return Alone {
-                machine: m,
-                why,
-                entries: i,
-            };
-        }
     }
-}
-
-#[tactic(auto, unfolding(crate::specs::Alone::later_of))]
-fn later(a: usize, b: usize) -> usize
-    ensures { result ≡ later_of a b }
-{
-    if a < b {
-        return b;
+    Alone {
+        machine: m,
+        why: Stop::End,
+        entries: i,
     }
-    a
 }
 
 // Both cars' machines, why each stopped, and how many entries are read.
@@ -175,6 +149,7 @@ pub struct Ended {
 }
 
 // The run of two cars: neither sees the other, so each is run by itself, and the entries read are those up to the later stop.
+#[tactic(auto, using(crate::proofs::Cars::both_ran))]
 pub fn run(
     program: &[u16],
     start: Machine,
@@ -189,15 +164,11 @@ pub fn run(
 {
     let a = by_itself(program, start, memory, script, 0, target);
     let b = by_itself(program, start1, memory1, script, 1, target1);
-    let m = a.machine;
-    let v = a.why;
-    let n = b.machine;
-    let w = b.why;
     Ended {
-        first: m,
-        firstwhy: v,
-        second: n,
-        secondwhy: w,
-        entries: later(a.entries, b.entries),
+        first: a.machine,
+        firstwhy: a.why,
+        second: b.machine,
+        secondwhy: b.why,
+        entries: a.entries.max(b.entries),
     }
 }

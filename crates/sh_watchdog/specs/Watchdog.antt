@@ -1,5 +1,5 @@
 -- The watchdog (003, 9; 01, "Events": Watchdog): a pulse a millisecond, in every mode, when bit 0 of the options is 1.
-use Rattle.std.specs.Prelude.{ℕ, ◌-◌, ◌%◌, Bool, false, ltb, eqb}
+use Rattle.std.specs.Prelude.{◌-◌, ◌%◌, Bool, false, ltb, eqb}
 use Rattle.lent.specs.Lent.{pick}
 use Rattle.sh_state.specs.declared.machine.Machine.{Machine}
 use Rattle.sh_state.specs.Record.{set_watchdog}

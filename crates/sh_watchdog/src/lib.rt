@@ -11,24 +11,16 @@ use sh_state::machine::Machine;
 pub fn expires(m: Machine) -> bool
     ensures { result ≡ expires_of m }
 {
-    if m.options % 2 == 1 {
-        return m.watchdog < 2;
-    }
-    false
+    m.options % 2 == 1 && m.watchdog < 2
 }
 
 // One pulse that does not expire.
 #[tactic(auto, unfolding(crate::specs::Watchdog::counted_down_of, sh_state::specs::Record::set_watchdog))]
-pub fn counted_down(m: Machine) -> Machine
+pub fn counted_down(mut m: Machine) -> Machine
     ensures { result ≡ counted_down_of m }
 {
-    let mut n = m;
-    if m.options % 2 == 1 {
-        if 1 < m.watchdog {
-            n.watchdog = m.watchdog - 1;
-            return n;
-        }
-        return m;
+    if m.options % 2 == 1 && 1 < m.watchdog {
+        m.watchdog -= 1;
     }
     m
 }

@@ -19,58 +19,51 @@ fn kept(old: u8, a: u16, v: u8) -> u8
 }
 
 #[tactic(auto, unfolding(crate::specs::Writes::base_written_of, sh_state::specs::Record::set_base_prescaler, sh_state::specs::Record::set_base_counter))]
-fn base_written(m: Machine, v: u8) -> Machine
+fn base_written(mut m: Machine, v: u8) -> Machine
     ensures { result ≡ base_written_of m v }
 {
-    let mut n = m;
-    n.baseprescaler = 0;
-    if v / 4 % 4 == 2 {
-        return n;
+    m.baseprescaler = 0;
+    if v / 4 % 4 != 2 {
+        m.basecounter = 0;
     }
-    n.basecounter = 0;
-    n
+    m
 }
 
 #[tactic(auto, unfolding(crate::specs::Writes::load_low_of, sh_state::specs::Record::set_load))]
-fn load_low(m: Machine, v: u8) -> Machine
+fn load_low(mut m: Machine, v: u8) -> Machine
     ensures { result ≡ load_low_of m v }
 {
-    let mut n = m;
-    n.load = m.load / 16 * 16 + v % 16;
-    n
+    m.load = m.load / 16 * 16 + v % 16;
+    m
 }
 
 #[tactic(auto, unfolding(crate::specs::Writes::load_high_of, sh_state::specs::Record::set_load, sh_state::specs::Record::set_counter, sh_state::specs::Record::set_frozen))]
-fn load_high(m: Machine, v: u8) -> Machine
+fn load_high(mut m: Machine, v: u8) -> Machine
     ensures { result ≡ load_high_of m v }
 {
-    let l = v % 16 * 16 + m.load % 16;
-    let mut n = m;
-    n.load = l;
-    n.counter = l;
-    n.frozen = sh_halves::released();
-    n
+    m.load = v % 16 * 16 + m.load % 16;
+    m.counter = m.load;
+    m.frozen = sh_halves::released();
+    m
 }
 
 #[tactic(auto, unfolding(crate::specs::Writes::asked_of, sh_state::specs::Record::set_pending))]
-fn asked(m: Machine, memory: &[u8], v: u8) -> Machine
+fn asked(mut m: Machine, memory: &[u8], v: u8) -> Machine
     ensures { result ≡ asked_of (state m memory.now) v }
 {
-    let mut n = m;
-    n.pending = 1;
-    n.address = 256 * (map::cell(memory, 0x1C) % 16) as u16
+    m.pending = 1;
+    m.address = 256 * (map::cell(memory, 0x1C) % 16) as u16
         + 16 * (map::cell(memory, 0x1B) % 16) as u16
         + (v % 16) as u16;
-    n
+    m
 }
 
 #[tactic(auto, unfolding(sh_state::specs::Record::set_prescaler))]
-fn prescaler_cleared(m: Machine) -> Machine
+fn prescaler_cleared(mut m: Machine) -> Machine
     ensures { result ≡ set_prescaler m 0 }
 {
-    let mut n = m;
-    n.prescaler = 0;
-    n
+    m.prescaler = 0;
+    m
 }
 
 // What the record notices of v being written.
@@ -78,25 +71,15 @@ fn prescaler_cleared(m: Machine) -> Machine
 fn noticed(m: Machine, memory: &[u8], a: u16, v: u8) -> Machine
     ensures { result ≡ noticed_of (state m memory.now) a v }
 {
-    if a == 0x02 {
-        return prescaler_cleared(m);
+    match a {
+        0x02 => prescaler_cleared(m),
+        0x03 => base_written(m, v),
+        0x04 => load_low(m, v),
+        0x05 => load_high(m, v),
+        0x1A => asked(m, memory, v),
+        0x1E => sh_cells::restarted(m, v),
+        _ => m,
     }
-    if a == 0x03 {
-        return base_written(m, v);
-    }
-    if a == 0x04 {
-        return load_low(m, v);
-    }
-    if a == 0x05 {
-        return load_high(m, v);
-    }
-    if a == 0x1A {
-        return asked(m, memory, v);
-    }
-    if a == 0x1E {
-        return sh_cells::restarted(m, v);
-    }
-    m
 }
 
 // A write: the record that noticed it, and at most one cell changed.

@@ -1,6 +1,6 @@
 -- A fresh build, number by number; and what it is for tables to match.
 use mathlib.Core.Path.{◌≡◌, ◌∙◌, refl, sym, ap}
-use mathlib.Core.Bool.{Bool, true, false, not}
+use mathlib.Core.Bool.{true, false, not}
 use mathlib.Core.List.{List, [], ◌∷◌}
 use Prim.Native.Nat.{ℕ, zero, suc, ◌+◌, ◌-◌, ◌<◌, ◌≤◌}
 use native.Mathlib.Omega.{arith}
@@ -9,7 +9,7 @@ use lib.Dec.{ltb, eqb}
 use lib.ListN.{length}
 use lib.Seq.{ext_get_or}
 use borrow.Author.Tests.{lt-ltb, le-ltb, ltb-true, ltb-false, eq-eqb, eqb-true}
-use Rattle.lent.specs.Lent.{pick, both, at, map_from}
+use Rattle.lent.specs.Lent.{at, map_from}
 use Rattle.lent.proofs.Laws.{test, never, both_true}
 use Rattle.tables.specs.Key.{key_of}
 use Rattle.tables.specs.Tables.{first_of, cell_at, from_at, fresh_at, built_of, same_of, matches_of}

@@ -1,6 +1,6 @@
 -- The lowest address kept under a cell, from an address of a program on: what it is, and that no other number is that.
 use mathlib.Core.Path.{◌≡◌, ◌∙◌, refl, sym, subst}
-use mathlib.Core.Bool.{Bool, true, false}
+use mathlib.Core.Bool.{true, false}
 use mathlib.Core.List.{List, [], ◌∷◌}
 use Prim.Native.Nat.{ℕ, zero, suc, ◌+◌, ◌-◌, ◌<◌, ◌≤◌}
 use native.Mathlib.Omega.{arith}

@@ -1,9 +1,9 @@
 -- The cell that a word is kept under, and the list's test: what each says of the other.
 use mathlib.Core.Path.{◌≡◌, ◌∙◌, refl, sym, ap}
 use mathlib.Core.Bool.{Bool, true, false}
-use Prim.Native.Nat.{ℕ, ◌<◌, ◌≤◌}
+use Prim.Native.Nat.{ℕ, ◌<◌}
 use native.Mathlib.Omega.{arith}
-use lib.Dec.{ltb, eqb}
+use lib.Dec.{eqb}
 use borrow.Author.Tests.{eq-eqb, eqb-true, eqb-false}
 use Rattle.lent.specs.Lent.{pick, both}
 use Rattle.lent.proofs.Laws.{test, never, both_true, by_test, by_lt}

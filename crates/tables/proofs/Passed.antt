@@ -1,6 +1,5 @@
 -- A pass over a program, from its last word to its first: what the slots and the tables hold where the words from a on have been passed.
 use mathlib.Core.Path.{◌≡◌, ◌∙◌, refl, sym, ap}
-use mathlib.Core.Bool.{true, false}
 use mathlib.Core.List.{List}
 use Prim.Native.Nat.{ℕ, ◌+◌, ◌-◌, ◌<◌, ◌≤◌}
 use native.Mathlib.Omega.{arith}
@@ -8,10 +7,10 @@ use lib.Dec.{ltb, eqb}
 use lib.ListN.{length, set, replicate, length-set, length-replicate, get_or-replicate}
 use lib.Seq.{get_or-set_same, get_or-set_other}
 use borrow.Author.Tests.{ltb-true, ltb-false, le-ltb, eqb-true, eqb-false}
-use Rattle.lent.specs.Lent.{pick, at}
+use Rattle.lent.specs.Lent.{at}
 use Rattle.lent.proofs.Laws.{test, by_lt}
-use Rattle.tables.specs.Key.{none, key_of}
-use Rattle.tables.specs.Tables.{first_of, fresh_at, built_of}
+use Rattle.tables.specs.Key.{none}
+use Rattle.tables.specs.Tables.{fresh_at, built_of}
 use Rattle.tables.specs.Pass.{slot_of, place_of, head_of, Ruled, SameHeads, Headed}
 use Rattle.tables.proofs.First.{first_past}
 use Rattle.tables.proofs.Slots.{slot_small, slot_first, slots_on}

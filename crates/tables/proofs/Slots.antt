@@ -1,6 +1,6 @@
 -- The slots of a pass: which one a word has, where its address is noted, and what the slots hold as the words are passed.
-use mathlib.Core.Path.{◌≡◌, ◌∙◌, refl, sym, ap}
-use mathlib.Core.Bool.{Bool, true, false}
+use mathlib.Core.Path.{◌≡◌, ◌∙◌, sym, ap}
+use mathlib.Core.Bool.{true, false}
 use mathlib.Core.List.{List}
 use Prim.Native.Nat.{ℕ, ◌+◌, ◌-◌, ◌*◌, ◌/◌, ◌%◌, ◌<◌, ◌≤◌}
 use native.Mathlib.Omega.{arith}
@@ -8,9 +8,9 @@ use lib.Dec.{ltb, eqb}
 use lib.ListN.{length, set}
 use lib.Seq.{get_or-set_same, get_or-set_other}
 use borrow.Author.Tests.{lt-ltb, le-ltb, ltb-true, ltb-false, eqb-true, eqb-false}
-use Rattle.lent.specs.Lent.{pick, at}
-use Rattle.lent.proofs.Laws.{test, never, by_lt, by_test}
-use Rattle.writers.specs.Bits.{named_of, row_of, may_of}
+use Rattle.lent.specs.Lent.{at}
+use Rattle.lent.proofs.Laws.{test, by_lt, by_test}
+use Rattle.writers.specs.Bits.{named_of, may_of}
 use Rattle.tables.specs.Key.{none, keeps_of, key_of, under}
 use Rattle.tables.specs.Tables.{first_of}
 use Rattle.tables.specs.Pass.{base_of, slot_of, place_of, head_of, Ruled}

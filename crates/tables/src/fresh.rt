@@ -10,19 +10,12 @@ use crate::{keys, pass};
 // How many numbers the tables are.
 pub const NUMBERS: usize = 5120;
 
-fn byte(bytes: &[u8], i: usize) -> u8
-    requires { i < length bytes.now }
-    ensures { result ≡ at bytes.now i }
-{
-    bytes[i]
-}
-
 // The word at an address; without a test of the place, which would be made for every word.
 pub fn word_at(program: &[u8], a: usize) -> u16
     requires { (length program.now ≡ 8192) × (a < 4096) }
     ensures { result ≡ at (words_of program.now 4096) a }
 {
-    256 * byte(program, a * 2) as u16 + byte(program, a * 2 + 1) as u16
+    256 * program[a * 2] as u16 + program[a * 2 + 1] as u16
 }
 
 // The slot of the word at an address.
@@ -39,11 +32,7 @@ fn write_heads(heads: &[u16], tables: &mut [u16])
     requires { (length heads.now ≡ 1153) × (5120 ≤ length tables.old) }
     ensures { Headed heads.now tables.old tables.new }
 {
-    let mut i: usize = 0;
-    while i < 1024 {
-        tables[i] = heads[i + 128];
-        i += 1;
-    }
+    tables[..1024].copy_from_slice(&heads[128..1152]);
 }
 
 // The tables of a program: from its last word to its first each address gets the one noted in its slot, and is noted there.
@@ -54,9 +43,7 @@ pub fn write(program: &[u8], tables: &mut [u16])
     let bases = pass::bases();
     let places = pass::places();
     let mut heads = [keys::NONE; 1153];
-    let mut a: usize = 4096;
-    while a > 0 {
-        a -= 1;
+    for a in (0..4096usize).rev() {
         let x = slot(program, &bases, a);
         tables[1024 + a] = heads[x];
         heads[places[x] as usize] = a as u16;
@@ -70,12 +57,10 @@ fn same_heads(heads: &[u16], tables: &[u16]) -> bool
     ensures { (result ≡ true → SameHeads heads.now tables.now) × (result ≡ false → SameHeads heads.now tables.now → ⊥) }
 {
     let mut same = true;
-    let mut i: usize = 0;
-    while i < 1024 {
+    for i in 0..1024usize {
         if tables[i] != heads[i + 128] {
             same = false;
         }
-        i += 1;
     }
     same
 }
@@ -88,9 +73,7 @@ fn same(program: &[u8], tables: &[u16]) -> bool
     let bases = pass::bases();
     let places = pass::places();
     let mut heads = [keys::NONE; 1153];
-    let mut a: usize = 4096;
-    while a > 0 {
-        a -= 1;
+    for a in (0..4096usize).rev() {
         let x = slot(program, &bases, a);
         if tables[1024 + a] != heads[x] {
             return false;

@@ -4,7 +4,7 @@ ghost use Rattle.tables.specs.Key.{keeps_of, kept_of, key_of};
 
 use sh_map::map;
 
-// No address, and no cell.
+// No address, and no cell: a number and no option, since it stands so in the tables that C lends.
 pub const NONE: u16 = 4096;
 
 // Whether addresses are kept under a cell.
@@ -12,10 +12,7 @@ pub const NONE: u16 = 4096;
 pub fn keeps(cell: u16) -> bool
     ensures { result ≡ keeps_of cell }
 {
-    if cell == 0x0F {
-        return true;
-    }
-    map::askable(cell)
+    cell == 0x0F || map::askable(cell)
 }
 
 // The cell that a word is kept under.

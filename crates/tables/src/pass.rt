@@ -19,10 +19,8 @@ pub fn bases() -> [u16; 512]
     ensures { Ruled base_of 512 result }
 {
     let mut b = [0u16; 512];
-    let mut i: u16 = 0;
-    while i < 512 {
+    for i in 0..512u16 {
         b[i as usize] = base(i);
-        i += 1;
     }
     b
 }
@@ -32,10 +30,8 @@ fn note(places: &mut [u16], from: usize, to: usize)
     requires { (from ≤ to) × (to ≤ length places.old) × (to ≤ 1152) }
     ensures { Noted from to places.old places.new }
 {
-    let mut i = from;
-    while i < to {
+    for i in from..to {
         places[i] = i as u16;
-        i += 1;
     }
 }
 

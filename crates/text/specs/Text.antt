@@ -1,5 +1,5 @@
 -- Text: numbers in upper-case hexadecimal digits (02, P3: "upper-case hex"), names in letters, what a text begins with, and what a room holds after text is laid into it.
-use Rattle.std.specs.Prelude.{ℕ, zero, suc, ◌+◌, ◌-◌, ◌*◌, ◌/◌, ◌%◌, Bool, true, false, List, [], ◌∷◌, ◌++◌, ltb, eqb}
+use Rattle.std.specs.Prelude.{ℕ, zero, suc, ◌+◌, ◌-◌, ◌*◌, ◌/◌, ◌%◌, Bool, true, false, List, [], ◌∷◌, ◌++◌, ltb, eqb, None, Option, Some}
 use Rattle.std.proofs.lemmas.List.Edits.{sets}
 use Rattle.lent.specs.Lent.{pick, both, at}
 
@@ -7,29 +7,30 @@ use Rattle.lent.specs.Lent.{pick, both, at}
 unfoldable pub digit_of : ℕ → ℕ
 digit_of v = pick (ltb v 10) (48 + v) (55 + v)
 
--- what a byte stands for as a digit; what is no digit counts more than any number of four digits
-unfoldable pub value_of : ℕ → ℕ
+-- what a byte stands for as a digit; nothing where it is no digit
+unfoldable pub value_of : ℕ → Option ℕ
 value_of c =
-    pick (ltb c 48) 0x10000
-    (pick (ltb c 58) (c - 48)
-    (pick (ltb c 65) 0x10000
-    (pick (ltb c 71) (c - 55)
-    0x10000)))
+    pick (ltb c 48) None
+    (pick (ltb c 58) (Some (c - 48))
+    (pick (ltb c 65) None
+    (pick (ltb c 71) (Some (c - 55))
+    None)))
 
 -- the last d digits of a number
 unfoldable pub hex_of : ℕ → ℕ → List ℕ
 hex_of zero v = []
 hex_of (suc d) v = hex_of d (v / 16) ++ (digit_of (v % 16) ∷ [])
 
--- the number that the first d bytes of a text say
-unfoldable pub number_in : ℕ → List ℕ → ℕ
-number_in zero t = 0
-number_in (suc d) t = number_in d t * 16 + value_of (at t d)
+-- a digit more behind the digits of a number
+abbrev pub number_more : Option ℕ → Option ℕ → Option ℕ
+number_more (Some n) (Some v) = Some (n * 16 + v)
+number_more (Some n) None = None
+number_more None v = None
 
--- a name of n letters as one number, 256 for a letter's place: its letters
-unfoldable pub letters_of : ℕ → ℕ → List ℕ
-letters_of zero x = []
-letters_of (suc n) x = letters_of n (x / 256) ++ (x % 256 ∷ [])
+-- the number that the first d bytes of a text say; nothing where one of them is no digit
+unfoldable pub number_in : ℕ → List ℕ → Option ℕ
+number_in zero t = Some 0
+number_in (suc d) t = number_more (number_in d t) (value_of (at t d))
 
 -- whether a text begins with certain bytes
 unfoldable pub begins : List ℕ → List ℕ → Bool

@@ -30,13 +30,10 @@ pub fn divider(v: u8) -> u8
     ensures { result ≡ divider_of v }
 {
     let tones = TONES;
-    let mut n: u8 = 1;
-    while n < 128 {
-        let i = (127 - n) as usize;
-        if tones[i] == v {
+    for n in 1..128 {
+        if tones[127 - n as usize] == v {
             return n;
         }
-        n += 1;
     }
     0
 }

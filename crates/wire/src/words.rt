@@ -11,15 +11,13 @@ pub fn words_of(body: &[u8]) -> [u16; 4096]
     ensures { result ≡ words_of body.now 4096 }
 {
     let mut w = [0u16; 4096];
-    let mut i: usize = 0;
-    while i < 4096 {
+    for i in 0..4096usize {
         w[i] = lent::pair_at(body, i * 2);
-        i += 1;
     }
     w
 }
 
-// The body's word at an address stored there; past the program nothing happens.
+// The body's word at an address stored there; past the program nothing happens. With `get_mut` two goals stayed open.
 fn put_word(body: &[u8], a: u16, w: &mut [u16])
     requires { length w.old ≡ 4096 }
     ensures { w.new ≡ set w.old a (at (words_of body.now 4096) a) }
@@ -48,9 +46,7 @@ pub fn put_words(ws: &[u16], n: usize, out: &mut [u8])
     if out.len() / 2 < n {
         return;
     }
-    let mut i: usize = 0;
-    while i < n {
-        lent::pair_set(out, i * 2, lent::fetch(ws, i));
-        i += 1;
+    for i in 0..n {
+        lent::pair_set(out, i * 2, lent::peek(ws, i));
     }
 }

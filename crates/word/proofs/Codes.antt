@@ -14,6 +14,10 @@ use Rattle.word.specs.declared.Condition.{Condition}
 use Rattle.word.specs.declared.Condition.TheVariants.{Bnz, Bnc, Baz, Bc, Ba0, Ba1, Ba2, Ba3}
 use Rattle.word.specs.Codes.{operation_of, immediate_of, condition_of, operation_code, immediate_code, condition_code}
 use Rattle.word.proofs.Every.{every, every_at}
+use denote.Enum.Declared.{tag_of}
+use Rattle.word.specs.contracts.Operation as operation
+use Rattle.word.specs.contracts.ImmediateOperation as immediate
+use Rattle.word.specs.contracts.Condition as condition
 
 -- each code is of its own operation or condition, and lies in its row of 01
 pub operation_back : (o : Operation) → (operation_of (operation_code o) ≡ o) × (operation_code o < 7)
@@ -65,3 +69,32 @@ immediate_code_lem n l h = row_same (λ n. immediate_code (immediate_of n)) 8 15
 pub condition_code_lem : (n : ℕ) → 16 ≤ n → n < 24 → condition_code (condition_of n) ≡ n
 unfolding every condition_of
 condition_code_lem n l h = row_same (λ n. condition_code (condition_of n)) 16 24 refl (omega arith) n l h
+
+-- what an operation or a condition is cast to is its code
+pub operation_cast : (o : Operation) → tag_of operation.the_type o ≡ operation_code o
+operation_cast Adc = refl
+operation_cast Add = refl
+operation_cast Sbc = refl
+operation_cast Sub = refl
+operation_cast Eor = refl
+operation_cast Or = refl
+operation_cast And = refl
+
+pub immediate_cast : (o : ImmediateOperation) → tag_of immediate.the_type o + 8 ≡ immediate_code o
+immediate_cast Adi = refl
+immediate_cast Adim = refl
+immediate_cast Sbi = refl
+immediate_cast Sbim = refl
+immediate_cast Eorim = refl
+immediate_cast Orim = refl
+immediate_cast Andim = refl
+
+pub condition_cast : (c : Condition) → tag_of condition.the_type c + 16 ≡ condition_code c
+condition_cast Bnz = refl
+condition_cast Bnc = refl
+condition_cast Baz = refl
+condition_cast Bc = refl
+condition_cast Ba0 = refl
+condition_cast Ba1 = refl
+condition_cast Ba2 = refl
+condition_cast Ba3 = refl

@@ -1,14 +1,12 @@
--- An instruction whose fields are in range is a word of 16 bits; what encoding gives by the outcome of that test.
-use mathlib.Core.Path.{◌≡◌, ◌∙◌, sym}
-use mathlib.Core.Bool.{Bool, true, false}
-use Prim.Native.Nat.{ℕ, ◌<◌}
+-- An instruction whose fields are in range is a word of 16 bits.
+use mathlib.Core.Path.{◌≡◌}
+use mathlib.Core.Bool.{true}
+use Prim.Native.Nat.{◌<◌}
 use native.Mathlib.Omega.{arith}
 use borrow.Author.Tests.{ltb-true}
-use Rattle.refusal.specs.declared.Refusal.TheVariants.{Field}
 use Rattle.word.specs.declared.Instruction.{Instruction}
 use Rattle.word.specs.declared.Instruction.TheVariants.{Accumulator, Memory, Lda, Sta, Immediate, Ldi, Branch, Call, Daa, Das, Rtnw, Rtni, Halt, Stop, Jmp, Shr, Tjmp, Nop}
-use Rattle.word.specs.declared.Encoded.{Encoded}
-use Rattle.word.specs.Word.{in_range, word_of, encode_of}
+use Rattle.word.specs.Word.{in_range, word_of}
 use Rattle.word.proofs.Laws.{both_below}
 use Rattle.word.proofs.Codes.{operation_back, immediate_back, condition_back}
 
@@ -31,15 +29,3 @@ word_fits (Jmp t) e = omega (arith, ltb-true t 4096 e)
 word_fits Shr e = omega arith
 word_fits Tjmp e = omega arith
 word_fits Nop e = omega arith
-
-module _ (i : Instruction) {b : Bool} (test : b ≡ in_range i) where
-  pub tested_fits : {w : ℕ} → b ≡ true → w ≡ word_of i → w < 65536
-  tested_fits t p = rw p (word_fits i (sym test ∙ t))
-
-  pub tested_word : {w : ℕ} → b ≡ true → w ≡ word_of i → Encoded.Word w ≡ encode_of i
-  unfolding encode_of
-  tested_word t p = rw (p, ← test, t)
-
-  pub tested_field : b ≡ false → Encoded.Refused Field ≡ encode_of i
-  unfolding encode_of
-  tested_field t = rw (← test, t)

@@ -1,4 +1,5 @@
 -- Each way round: the word of an instruction whose fields are in range is read as that instruction, and what a listed word is read as is written as that word.
+use Rattle.std.specs.Prelude.{Err, Ok, Result}
 use mathlib.Core.Path.{◌≡◌, ◌∙◌, refl, sym}
 use mathlib.Core.Bool.{true, false}
 use Prim.Native.Nat.{ℕ, ◌+◌, ◌*◌, ◌/◌, ◌%◌, ◌<◌, ◌≤◌}
@@ -10,8 +11,6 @@ use Rattle.refusal.specs.declared.Refusal.TheVariants.{UnlistedWord}
 use Rattle.refusal.specs.Told.{said, refused_told}
 use Rattle.word.specs.declared.Instruction.{Instruction}
 use Rattle.word.specs.declared.Instruction.TheVariants.{Accumulator, Memory, Lda, Sta, Immediate, Ldi, Branch, Call, Daa, Das, Rtnw, Rtni, Halt, Stop, Jmp, Shr, Tjmp, Nop}
-use Rattle.word.specs.declared.Decoded.{Decoded}
-use Rattle.word.specs.declared.Encoded.{Encoded}
 use Rattle.word.specs.Codes.{operation_code, immediate_code, condition_code}
 use Rattle.word.specs.Word.{decode_of, accumulator_of, transfer_of, control_of, encode_of, in_range, word_of, decoded_told, encoded_told}
 use Rattle.word.proofs.Laws.{both_below, both_lt}
@@ -51,7 +50,7 @@ bits_10_7 k i x w hi hx s =
     let r : w / 128 / 16 ≡ k = omega arith in
     omega arith
 
-read_back : (i : Instruction) (w : ℕ) → in_range i ≡ true → word_of i ≡ w → decode_of w ≡ Decoded.Listed i
+read_back : (i : Instruction) (w : ℕ) → in_range i ≡ true → word_of i ≡ w → decode_of w ≡ Ok i
 unfolding decode_of accumulator_of transfer_of control_of
 read_back (Accumulator o a) w e s =
     let h = ltb-true a 1024 e in
@@ -132,7 +131,7 @@ read_back Shr w e s = rw (← s)
 read_back Tjmp w e s = rw (← s)
 read_back Nop w e s = rw (← s)
 
-pub decode_encode : (i : Instruction) → in_range i ≡ true → (encode_of i ≡ Encoded.Word (word_of i)) × (decode_of (word_of i) ≡ Decoded.Listed i)
+pub decode_encode : (i : Instruction) → in_range i ≡ true → (encode_of i ≡ Ok (word_of i)) × (decode_of (word_of i) ≡ Ok i)
 unfolding encode_of
 decode_encode i e = (rw e, read_back i (word_of i) e refl)
 
@@ -142,9 +141,9 @@ unfolding encode_of encoded_told refused_told
 encode_refused i e = rw e
 
 -- what a word is read as has its fields in range and is written as that word; a refusal is of that word
-abbrev Good : ℕ → Decoded → Type 0
-Good w (Decoded.Listed i) = (in_range i ≡ true) × (word_of i ≡ w)
-Good w (Decoded.Refused why) = why ≡ UnlistedWord w
+abbrev Good : ℕ → Result Instruction Refusal → Type 0
+Good w (Ok i) = (in_range i ≡ true) × (word_of i ≡ w)
+Good w (Err why) = why ≡ UnlistedWord w
 
 good_accumulator : (w : ℕ) → w / 2048 < 7 → Good w (accumulator_of w)
 unfolding accumulator_of
@@ -186,14 +185,14 @@ good w =
     (λ t6. by_eq (Good w) (w / 4096) 14 _ _ (λ t. (lt-ltb (w % 4096) 4096 (omega arith), omega arith))
     (λ t7. good_control w)))))))
 
-pub encode_decode : (w : ℕ) (i : Instruction) → decode_of w ≡ Decoded.Listed i → (in_range i ≡ true) × (encode_of i ≡ Encoded.Word w)
+pub encode_decode : (w : ℕ) (i : Instruction) → decode_of w ≡ Ok i → (in_range i ≡ true) × (encode_of i ≡ Ok w)
 unfolding encode_of
 encode_decode w i e =
     let g = rw e at (good w) in
     (g.0, rw (g.0, g.1))
 
 -- 6, with the word
-pub decode_refused : (w : ℕ) (why : Refusal) → decode_of w ≡ Decoded.Refused why → decoded_told (decode_of w) ≡ said 6 w
+pub decode_refused : (w : ℕ) (why : Refusal) → decode_of w ≡ Err why → decoded_told (decode_of w) ≡ said 6 w
 unfolding decoded_told refused_told
 decode_refused w why e =
     let g : why ≡ UnlistedWord w = rw e at (good w) in

@@ -1,13 +1,12 @@
 -- Which instruction a word is, and which word an instruction is (003, section 17; 01, "Instruction words").
-use Rattle.std.specs.Prelude.{ℕ, ◌+◌, ◌*◌, ◌/◌, ◌%◌, Bool, true, ltb, eqb}
+use Rattle.std.specs.Prelude.{ℕ, ◌+◌, ◌*◌, ◌/◌, ◌%◌, Bool, true, ltb, eqb, Err, Ok, Result}
 use Rattle.lent.specs.Lent.{pick, both}
 use Rattle.refusal.specs.declared.Refusal.TheVariants.{UnlistedWord, Field}
 use Rattle.word.specs.declared.Instruction.{Instruction}
 use Rattle.word.specs.declared.Instruction.TheVariants.{Accumulator, Memory, Lda, Sta, Immediate, Ldi, Branch, Call, Daa, Das, Rtnw, Rtni, Halt, Stop, Jmp, Shr, Tjmp, Nop}
-use Rattle.word.specs.declared.Decoded.{Decoded}
-use Rattle.word.specs.declared.Encoded.{Encoded}
 use Rattle.word.specs.Codes.{operation_of, immediate_of, condition_of, operation_code, immediate_code, condition_code}
 use Rattle.refusal.specs.Told.{Said, done_told, refused_told}
+use Rattle.refusal.specs.declared.Refusal.{Refusal}
 
 -- The fields of a word, in section 17's letters.
 
@@ -36,39 +35,39 @@ abbrev pub target : ℕ → ℕ
 target w = w % 2048
 
 -- accumulator type, codes 0-6: 00ooo 1bbb xxx xxxx with the memory, 00ooo 0bbb xxx xxxx without
-unfoldable pub accumulator_of : ℕ → Decoded
+unfoldable pub accumulator_of : ℕ → Result Instruction Refusal
 accumulator_of w =
-    pick (eqb (memory_bit w) 1) (Decoded.Listed (Memory (operation_of (code w)) (address w)))
-    (Decoded.Listed (Accumulator (operation_of (code w)) (address w)))
+    pick (eqb (memory_bit w) 1) (Ok (Memory (operation_of (code w)) (address w)))
+    (Ok (Accumulator (operation_of (code w)) (address w)))
 
 -- transfer, code 7: 00111 1bbb xxx xxxx is STA, 00111 0bbb xxx xxxx is LDA
-unfoldable pub transfer_of : ℕ → Decoded
-transfer_of w = pick (eqb (memory_bit w) 1) (Decoded.Listed (Sta (address w))) (Decoded.Listed (Lda (address w)))
+unfoldable pub transfer_of : ℕ → Result Instruction Refusal
+transfer_of w = pick (eqb (memory_bit w) 1) (Ok (Sta (address w))) (Ok (Lda (address w)))
 
 -- what is listed of codes 25-27, 30 and 31
-unfoldable pub control_of : ℕ → Decoded
+unfoldable pub control_of : ℕ → Result Instruction Refusal
 control_of w =
-    pick (eqb (w / 128) 0x196) (Decoded.Listed (Daa (field_x w)))  -- 11001 0110 xxx xxxx: $CB00-$CB7F
-    (pick (eqb (w / 128) 0x19A) (Decoded.Listed (Das (field_x w)))  -- 11001 1010 xxx xxxx: $CD00-$CD7F
-    (pick (eqb (w / 256) 0xD0) (Decoded.Listed (Rtnw (w / 16 % 16) (w % 16)))  -- 11010 000h hhh llll: $D000-$D0FF
-    (pick (eqb w 0xD400) (Decoded.Listed Rtni)
-    (pick (eqb w 0xD800) (Decoded.Listed Halt)
-    (pick (eqb w 0xDC00) (Decoded.Listed Stop)
-    (pick (eqb w 0xF000) (Decoded.Listed Shr)
-    (pick (eqb w 0xF7FF) (Decoded.Listed Tjmp)
-    (pick (eqb w 0xFFFF) (Decoded.Listed Nop)
-    (Decoded.Refused (UnlistedWord w))))))))))  -- 01: "Reading an unlisted word also answers 6, with the word"
+    pick (eqb (w / 128) 0x196) (Ok (Daa (field_x w)))  -- 11001 0110 xxx xxxx: $CB00-$CB7F
+    (pick (eqb (w / 128) 0x19A) (Ok (Das (field_x w)))  -- 11001 1010 xxx xxxx: $CD00-$CD7F
+    (pick (eqb (w / 256) 0xD0) (Ok (Rtnw (w / 16 % 16) (w % 16)))  -- 11010 000h hhh llll: $D000-$D0FF
+    (pick (eqb w 0xD400) (Ok Rtni)
+    (pick (eqb w 0xD800) (Ok Halt)
+    (pick (eqb w 0xDC00) (Ok Stop)
+    (pick (eqb w 0xF000) (Ok Shr)
+    (pick (eqb w 0xF7FF) (Ok Tjmp)
+    (pick (eqb w 0xFFFF) (Ok Nop)
+    (Err (UnlistedWord w))))))))))  -- 01: "Reading an unlisted word also answers 6, with the word"
 
 -- The instruction of a word; a word that is not listed is refused.
-unfoldable pub decode_of : ℕ → Decoded
+unfoldable pub decode_of : ℕ → Result Instruction Refusal
 decode_of w =
     pick (ltb (code w) 7) (accumulator_of w)  -- 01: codes 0-6
     (pick (eqb (code w) 7) (transfer_of w)  -- code 7
-    (pick (ltb (code w) 15) (Decoded.Listed (Immediate (immediate_of (code w)) (field_x w) (immediate w)))  -- codes 8-14: 01ooo iiii xxx xxxx
-    (pick (eqb (code w) 15) (Decoded.Listed (Ldi (field_x w) (immediate w)))  -- code 15: 01111 iiii xxx xxxx
-    (pick (ltb (code w) 24) (Decoded.Listed (Branch (condition_of (code w)) (target w)))  -- codes 16-23: 10ccc xxxx xxx xxxx
-    (pick (eqb (code w) 24) (Decoded.Listed (Call (target w)))  -- 11000 xxxx xxx xxxx: $C000-$C7FF
-    (pick (eqb (w / 4096) 14) (Decoded.Listed (Jmp (w % 4096)))  -- 1110p xxxx xxx xxxx: $E000-$EFFF
+    (pick (ltb (code w) 15) (Ok (Immediate (immediate_of (code w)) (field_x w) (immediate w)))  -- codes 8-14: 01ooo iiii xxx xxxx
+    (pick (eqb (code w) 15) (Ok (Ldi (field_x w) (immediate w)))  -- code 15: 01111 iiii xxx xxxx
+    (pick (ltb (code w) 24) (Ok (Branch (condition_of (code w)) (target w)))  -- codes 16-23: 10ccc xxxx xxx xxxx
+    (pick (eqb (code w) 24) (Ok (Call (target w)))  -- 11000 xxxx xxx xxxx: $C000-$C7FF
+    (pick (eqb (w / 4096) 14) (Ok (Jmp (w % 4096)))  -- 1110p xxxx xxx xxxx: $E000-$EFFF
     (control_of w)))))))
 
 -- Whether each field of an instruction fits its bits (refusal 13).
@@ -114,15 +113,15 @@ word_of Tjmp = 0xF7FF  -- 11110 1111 111 1111
 word_of Nop = 0xFFFF  -- 11111 1111 111 1111
 
 -- An instruction written: its word, or 13 where a field is out of range.
-unfoldable pub encode_of : Instruction → Encoded
-encode_of i = pick (in_range i) (Encoded.Word (word_of i)) (Encoded.Refused Field)
+unfoldable pub encode_of : Instruction → Result ℕ Refusal
+encode_of i = pick (in_range i) (Ok (word_of i)) (Err Field)
 
 -- what is told of a word that is read; the instruction is in the answer
-unfoldable pub decoded_told : Decoded → Said
-decoded_told (Decoded.Listed i) = done_told
-decoded_told (Decoded.Refused why) = refused_told why
+unfoldable pub decoded_told : Result Instruction Refusal → Said
+decoded_told (Ok i) = done_told
+decoded_told (Err why) = refused_told why
 
 -- what is told of an instruction that is written; its word is in the answer
-unfoldable pub encoded_told : Encoded → Said
-encoded_told (Encoded.Word w) = done_told
-encoded_told (Encoded.Refused why) = refused_told why
+unfoldable pub encoded_told : Result ℕ Refusal → Said
+encoded_told (Ok w) = done_told
+encoded_told (Err why) = refused_told why

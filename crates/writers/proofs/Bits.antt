@@ -1,5 +1,6 @@
 -- The test by a word's bits is the test of the instruction that it is read as.
-use mathlib.Core.Path.{◌≡◌, ◌∙◌, refl, ap, sym}
+use Rattle.std.specs.Prelude.{Ok, Result}
+use mathlib.Core.Path.{◌≡◌, ◌∙◌, refl, sym}
 use mathlib.Core.Bool.{Bool, true, false, not}
 use Prim.Native.Nat.{ℕ, ◌+◌, ◌-◌, ◌/◌, ◌%◌, ◌^◌, ◌<◌, ◌≤◌}
 use native.Mathlib.Omega.{arith}
@@ -7,14 +8,14 @@ use lib.Dec.{eqb}
 use borrow.Author.Tests.{lt-ltb, le-ltb, ne_eqb, eqb-true, eqb-false}
 use Rattle.lent.specs.Lent.{pick, both, at}
 use Rattle.lent.proofs.Laws.{test, by_choice, by_eq, by_lt}
-use Rattle.word.specs.declared.Decoded.{Decoded}
 use Rattle.word.specs.declared.Instruction.TheVariants.{Immediate, Ldi, Branch, Call, Jmp}
 use Rattle.word.specs.Codes.{immediate_of, condition_of}
 use Rattle.word.specs.Word.{decode_of, accumulator_of, transfer_of, control_of}
 use Rattle.sh_map.proofs.Below.{below, below_at, below_pair}
 use Rattle.writers.specs.Test.{names, changing, writes_in, writes_by, writes_of}
-use Rattle.writers.proofs.Laws.{both_on, both_off}
 use Rattle.writers.specs.Bits.{named_of, rows, row_of, may_of}
+use Rattle.refusal.specs.declared.Refusal.{Refusal}
+use Rattle.word.specs.declared.Instruction.{Instruction}
 
 -- a bit of a row
 abbrev bit : ℕ → ℕ → Bool
@@ -48,7 +49,7 @@ decimal_row : (k : ℕ) → k < 16 → pick (eqb k 6) true (eqb k 10) ≡ bit 0x
 unfolding below
 decimal_row k h = same_is _ _ (below_at 16 (λ i. same (pick (eqb i 6) true (eqb i 10)) (bit 0x0440 i)) k refl h)
 
-bank_rows : (n : ℕ) → n < 8 → at rows n ≡ 0xFF00
+pub bank_rows : (n : ℕ) → n < 8 → at rows n ≡ 0xFF00
 unfolding below rows
 bank_rows n h = eqb-true _ _ (below_at 8 (λ i. eqb (at rows i) 0xFF00) n refl h)
 
@@ -63,7 +64,7 @@ last_row = refl
 -- The two tests, by the code.
 module _ (w c : ℕ) where
   -- what a word is read as is tested as its bits are
-  abbrev Same : Decoded → Type 0
+  abbrev Same : Result Instruction Refusal → Type 0
   Same d = both (names (named_of w) c) (may_of w) ≡ writes_by d c
 
   both_never : (b : Bool) → both b false ≡ false
@@ -90,7 +91,7 @@ module _ (w c : ℕ) where
   near h = rw (le-ltb w 0x4000 (omega arith))
 
   -- with the memory's bit a write, without it none
-  halves : (d e : Decoded) (b : Bool) → names (w % 1024) c ≡ writes_by d c → false ≡ writes_by e c → both (names (w % 1024) c) b ≡ writes_by (pick b d e) c
+  halves : (d e : Result Instruction Refusal) (b : Bool) → names (w % 1024) c ≡ writes_by d c → false ≡ writes_by e c → both (names (w % 1024) c) b ≡ writes_by (pick b d e) c
   halves d e true p q = both_always (names (w % 1024) c) ∙ p
   halves d e false p q = both_never (names (w % 1024) c) ∙ q
 
@@ -140,23 +141,23 @@ module _ (w c : ℕ) where
       (by_choice Same (eqb w 0xF7FF) _ _ z
       (by_choice Same (eqb w 0xFFFF) _ _ z z))))))))
 
-  immediate : 8 ≤ w / 2048 → w / 2048 < 15 → Same (Decoded.Listed (Immediate (immediate_of (w / 2048)) (w % 128) (w / 128 % 16)))
+  immediate : 8 ≤ w / 2048 → w / 2048 < 15 → Same (Ok (Immediate (immediate_of (w / 2048)) (w % 128) (w / 128 % 16)))
   unfolding writes_by writes_in
   immediate h k = immediates h k
 
-  ldi : w / 2048 ≡ 15 → Same (Decoded.Listed (Ldi (w % 128) (w / 128 % 16)))
+  ldi : w / 2048 ≡ 15 → Same (Ok (Ldi (w % 128) (w / 128 % 16)))
   unfolding writes_by writes_in
   ldi e = full e
 
-  branch : 16 ≤ w / 2048 → (w / 2048 ≡ 25 → ⊥) → Same (Decoded.Listed (Branch (condition_of (w / 2048)) (w % 2048)))
+  branch : 16 ≤ w / 2048 → (w / 2048 ≡ 25 → ⊥) → Same (Ok (Branch (condition_of (w / 2048)) (w % 2048)))
   unfolding writes_by writes_in
   branch h n = none h n
 
-  call : w / 2048 ≡ 24 → Same (Decoded.Listed (Call (w % 2048)))
+  call : w / 2048 ≡ 24 → Same (Ok (Call (w % 2048)))
   unfolding writes_by writes_in
   call e = none (omega arith) (omega arith)
 
-  jmp : w / 4096 ≡ 14 → Same (Decoded.Listed (Jmp (w % 4096)))
+  jmp : w / 4096 ≡ 14 → Same (Ok (Jmp (w % 4096)))
   unfolding writes_by writes_in
   jmp e = none (omega arith) (omega arith)
 
@@ -171,23 +172,6 @@ module _ (w c : ℕ) where
       (λ l. by_eq Same (w / 2048) 24 _ _ (λ e. call e)
       (λ o. by_eq Same (w / 4096) 14 _ _ (λ e. jmp e) (λ p. controls (omega arith))))))))
 
--- What the tests of a function leave.
-module _ (w c : ℕ) {n : Bool} {x : ℕ} (e : x ≡ named_of w) (f : n ≡ names x c) where
-  asked : n ≡ names (named_of w) c
-  asked = f ∙ ap (λ (y : ℕ). names y c) e
-
-  pub bits_on : {r : Bool} → n ≡ true → r ≡ may_of w → r ≡ writes_of w c
-  bits_on t q = both_on asked t q ∙ by_bits w c
-
-  pub bits_off : n ≡ false → false ≡ writes_of w c
-  bits_off t = both_off (may_of w) asked t ∙ by_bits w c
-
-pub row_at : {n : ℕ} (k : ℕ) → n ≡ k → row_of k ≡ row_of n
-row_at k e = ap row_of (sym e)
-
-pub row_past : (n : ℕ) → 16 ≤ n → (n ≡ 25 → ⊥) → 0 ≡ row_of n
-unfolding row_of
-row_past n h k = rw (le-ltb n 16 h, ne_eqb n 25 k)
-
-pub up : {x : ℕ} (k : ℕ) → k ≤ x → (x ≡ k → ⊥) → k + 1 ≤ x
-up k h n = omega arith
+  -- the same, as a search for a proof reads it
+  pub writes_by_bits : writes_of w c ≡ both (names (named_of w) c) (may_of w)
+  writes_by_bits = sym by_bits

@@ -1,4 +1,5 @@
 -- The test holds exactly when the statement does: what changes a cell writes it with a value that may differ, and from such a value the witness is built.
+use Rattle.std.specs.Prelude.{Err, Ok, Result}
 use mathlib.Core.Path.{◌≡◌, ◌∙◌, refl, sym, ap}
 use mathlib.Core.Bool.{Bool, true}
 use mathlib.Core.List.{List}
@@ -9,7 +10,6 @@ use lib.Seq.{get_or-set_same, get_or-set_other}
 use borrow.Author.Tests.{eqb-true, eqb-false}
 use Rattle.lent.specs.Lent.{both, at}
 use Rattle.lent.proofs.Laws.{both_true, test, never}
-use Rattle.word.specs.declared.Decoded.{Decoded}
 use Rattle.word.specs.declared.Instruction.{Instruction}
 use Rattle.word.specs.Word.{decode_of}
 use Rattle.word.proofs.RoundTrip.{encode_decode}
@@ -24,6 +24,7 @@ use Rattle.writers.proofs.Cell.{past_registers, kept_askable, value_askable, nam
 use Rattle.writers.proofs.Witness.{arrived, pointing, holds, quiet, means, arrived_well}
 use Rattle.writers.proofs.Forms.{left_of, Value, Form, form_of}
 use Rattle.writers.proofs.Forms.Form.{Writes, Leaves}
+use Rattle.refusal.specs.declared.Refusal.{Refusal}
 
 -- an address that means a cell names it
 named : (l : List ℕ) (x c : ℕ) → target_of l x ≡ c → names x c ≡ true
@@ -72,7 +73,7 @@ pub complete : (p : List ℕ) (a c : ℕ) → askable_of c ≡ true → a < 4096
 unfolding writes_of writes_by arrived set_pc set_ac set_cy fresh_of
 complete p a c h k = by_word (decode_of (at p a)) refl
   where
-    by_form : (i : Instruction) → decode_of (at p a) ≡ Decoded.Listed i → Form i c → writes_in i c ≡ true → Changes p a c
+    by_form : (i : Instruction) → decode_of (at p a) ≡ Ok i → Form i c → writes_in i c ≡ true → Changes p a c
     by_form i e (Leaves same fails) t = never (sym fails ∙ t)
     by_form i e (Writes x value may w after passes) t =
         let b = both_true (names x c) may (sym passes ∙ t) in
@@ -92,6 +93,6 @@ complete p a c h k = by_word (decode_of (at p a)) refl
               (rw (holds c w.cell h) at (sym (left_value s (fit_of s well) c h x value may w (means c w.cell h x b.0)) ∙ (sym (ap (λ (l : List ℕ). at l c) (after s)) ∙ d)));
         }
 
-    by_word : (d : Decoded) → decode_of (at p a) ≡ d → writes_by d c ≡ true → Changes p a c
-    by_word (Decoded.Listed i) e t = by_form i e (form_of i c (encode_decode (at p a) i e).0 h) t
-    by_word (Decoded.Refused why) e t = never t
+    by_word : (d : Result Instruction Refusal) → decode_of (at p a) ≡ d → writes_by d c ≡ true → Changes p a c
+    by_word (Ok i) e t = by_form i e (form_of i c (encode_decode (at p a) i e).0 h) t
+    by_word (Err why) e t = never t

@@ -1,4 +1,5 @@
 -- The whole cycle, the event $00, leaves a cell that can be asked for as its instruction does: the rest of the cycle stores below $020 only.
+use Rattle.std.specs.Prelude.{Err, Ok, Result}
 use mathlib.Core.Path.{◌≡◌, ◌∙◌, refl, sym, ap}
 use mathlib.Core.Bool.{true, false}
 use mathlib.Core.List.{List}
@@ -9,12 +10,10 @@ use lib.ListN.{set}
 use lib.Seq.{get_or-set_other}
 use Rattle.lent.specs.Lent.{at}
 use Rattle.lent.proofs.Laws.{by_eq}
-use Rattle.word.specs.declared.Decoded.{Decoded}
 use Rattle.word.specs.declared.Instruction.{Instruction}
 use Rattle.word.specs.Word.{decode_of}
 use Rattle.word.proofs.RoundTrip.{encode_decode}
 use Rattle.sh_state.specs.declared.machine.Machine.{Machine}
-use Rattle.sh_rules.specs.declared.judge.Judged.TheVariants.{Fine}
 use Rattle.sh_rules.specs.Judge.{state_judged}
 use Rattle.sh_map.specs.Map.{askable_of}
 use Rattle.sh_state.specs.Record.{set_mode, set_pending}
@@ -29,6 +28,7 @@ use Rattle.writers.specs.Statement.{Changes}
 use Rattle.writers.proofs.Cell.{past_registers}
 use Rattle.writers.proofs.Forms.{left_of, Form, form_of}
 use Rattle.writers.proofs.Forms.Form.{Writes, Leaves}
+use Rattle.refusal.specs.declared.Refusal.{Refusal}
 
 -- waking clears the pending read and the mode, by which no instruction writes
 woken_same : (i : Instruction) (c : ℕ) → Form i c → (m : Machine) (l : List ℕ) → at (execute_of (state (woken_of m) l) i).memory c ≡ at (execute_of (state m l) i).memory c
@@ -63,12 +63,12 @@ module _ (c : ℕ) (h : 0x20 ≤ c) where
       ∙ by_eq (λ l. at l c ≡ at s.memory c) start.pending 1 _ _ (λ e. word_stays s.memory (at p start.address)) (λ n. refl)
 
 -- the event of a machine that runs with nothing due: the instruction at its counter, then (d) and (e)
-pub executed : (p : List ℕ) (s : State) (i : Instruction) → s.machine.mode ≡ 0 → due_of s.memory ≡ 0 → decode_of (at p s.machine.pc) ≡ Decoded.Listed i
+pub executed : (p : List ℕ) (s : State) (i : Instruction) → s.machine.mode ≡ 0 → due_of s.memory ≡ 0 → decode_of (at p s.machine.pc) ≡ Ok i
     → ((event_of p s 0x00).stuck ≡ false) × ((event_of p s 0x00).after ≡ executed_of p s i)
 unfolding event_of cycle_of cycle_due_of awake_of awake_cycle_of instructed_of
 executed p s i r q e = rw (q, r, e) (refl, refl)
 
-pub step_changes : (p : List ℕ) (s : State) (i : Instruction) (c : ℕ) → s.machine.mode ≡ 0 → due_of s.memory ≡ 0 → decode_of (at p s.machine.pc) ≡ Decoded.Listed i → askable_of c ≡ true
+pub step_changes : (p : List ℕ) (s : State) (i : Instruction) (c : ℕ) → s.machine.mode ≡ 0 → due_of s.memory ≡ 0 → decode_of (at p s.machine.pc) ≡ Ok i → askable_of c ≡ true
     → at (event_of p s 0x00).after.memory c ≡ at (execute_of s i).memory c
 unfolding executed_of
 step_changes p s i c r q e h =
@@ -82,13 +82,13 @@ step_differs p a c h d e =
     d.differs (sym (step_changes p d.before d.instruction c d.running d.quiet (rw d.there d.reads) h) ∙ e)
 
 -- and where the event of some well-formed machine, running, with nothing due, does that, the statement holds of its counter.
-pub differs_by_step : (p : List ℕ) (s : State) (c : ℕ) → askable_of c ≡ true → state_judged s ≡ Fine → s.machine.mode ≡ 0 → due_of s.memory ≡ 0
+pub differs_by_step : (p : List ℕ) (s : State) (c : ℕ) → askable_of c ≡ true → state_judged s ≡ Ok tt → s.machine.mode ≡ 0 → due_of s.memory ≡ 0
     → (at (event_of p s 0x00).after.memory c ≡ at s.memory c → ⊥) → Changes p s.machine.pc c
 unfolding event_of cycle_of cycle_due_of awake_of awake_cycle_of instructed_of
 differs_by_step p s c h f r q n = by_word (decode_of (at p s.machine.pc)) refl
   where
-    by_word : (d : Decoded) → decode_of (at p s.machine.pc) ≡ d → Changes p s.machine.pc c
-    by_word (Decoded.Listed i) e = record {
+    by_word : (d : Result Instruction Refusal) → decode_of (at p s.machine.pc) ≡ d → Changes p s.machine.pc c
+    by_word (Ok i) e = record {
       before = s;
       well_formed = f;
       running = r;
@@ -98,4 +98,4 @@ differs_by_step p s c h f r q n = by_word (decode_of (at p s.machine.pc)) refl
       reads = e;
       differs = λ k. n (step_changes p s i c r q e h ∙ k);
     }
-    by_word (Decoded.Refused why) e = absurd (n (rw (q, r, e)))
+    by_word (Err why) e = absurd (n (rw (q, r, e)))

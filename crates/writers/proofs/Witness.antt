@@ -1,4 +1,5 @@
 -- The witness: a well-formed machine that runs at an address with nothing requested, whose cell holds a chosen nibble and is pointed at.
+use Rattle.std.specs.Prelude.{Ok}
 use mathlib.Core.Path.{◌≡◌, ◌∙◌, refl, sym}
 use mathlib.Core.Logic.{⊎_elim}
 use mathlib.Core.Bool.{true}
@@ -10,7 +11,6 @@ use lib.ListN.{length, set, replicate, length-set, length-replicate}
 use lib.Seq.{get_or-set_same, get_or-set_other}
 use borrow.Author.Tests.{ne_eqb}
 use Rattle.lent.specs.Lent.{at}
-use Rattle.sh_rules.specs.declared.judge.Judged.TheVariants.{Fine}
 use Rattle.sh_tones.proofs.Kept.{silent_fits}
 use Rattle.sh_halves.proofs.Kept.{released_fits}
 use Rattle.sh_state.specs.declared.machine.Machine.{Machine}
@@ -124,5 +124,5 @@ module _ (c v : ℕ) (h : askable_of c ≡ true) where
       let b = past_registers c h in
       ⊎_elim (λ e. rw (e, ne_eqb c 0x0F (omega arith))) (λ e. rw e points) (names_only x c n)
 
-pub arrived_well : (a ac cy c v : ℕ) → a < 4096 → ac < 16 → cy < 2 → v < 16 → askable_of c ≡ true → state_judged (state (arrived a ac cy) (pointing c v)) ≡ Fine
+pub arrived_well : (a ac cy c v : ℕ) → a < 4096 → ac < 16 → cy < 2 → v < 16 → askable_of c ≡ true → state_judged (state (arrived a ac cy) (pointing c v)) ≡ Ok tt
 arrived_well a ac cy c v p q r k h = judged_of (pointing_fits (arrived a ac cy) (arrived_fits a ac cy p q r) c h v k)

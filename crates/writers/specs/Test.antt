@@ -1,13 +1,13 @@
 -- The test of one word and one cell of data, display or scan: whether the word's instruction writes the cell with anything that may be
 -- another value.
-use Rattle.std.specs.Prelude.{Bool, true, false, not, ℕ, eqb}
+use Rattle.std.specs.Prelude.{Bool, true, false, not, ℕ, eqb, Err, Ok, Result}
 use Rattle.lent.specs.Lent.{pick, both}
-use Rattle.word.specs.declared.Decoded.{Decoded}
 use Rattle.word.specs.declared.ImmediateOperation.{ImmediateOperation}
 use Rattle.word.specs.declared.ImmediateOperation.TheVariants.{Adi, Adim, Sbi, Sbim, Eorim, Orim, Andim}
 use Rattle.word.specs.declared.Instruction.{Instruction}
 use Rattle.word.specs.declared.Instruction.TheVariants.{Accumulator, Memory, Lda, Sta, Immediate, Ldi, Branch, Call, Daa, Das, Rtnw, Rtni, Halt, Stop, Jmp, Shr, Tjmp, Nop}
 use Rattle.word.specs.Word.{decode_of}
+use Rattle.refusal.specs.declared.Refusal.{Refusal}
 
 -- address x can mean cell c: it is c, or it is $00F, which means the cell pointed at
 unfoldable pub names : ℕ → ℕ → Bool
@@ -44,9 +44,9 @@ writes_in Tjmp c = false
 writes_in Nop c = false
 
 -- "The list of writers never holds the address of an unlisted word"
-unfoldable pub writes_by : Decoded → ℕ → Bool
-writes_by (Decoded.Listed i) c = writes_in i c
-writes_by (Decoded.Refused why) c = false
+unfoldable pub writes_by : Result Instruction Refusal → ℕ → Bool
+writes_by (Ok i) c = writes_in i c
+writes_by (Err why) c = false
 
 unfoldable pub writes_of : ℕ → ℕ → Bool
 writes_of w c = writes_by (decode_of w) c

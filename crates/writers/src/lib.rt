@@ -15,21 +15,12 @@ use refusal::Refusal;
 use sh_map::map;
 use sh_state::machine::Machine;
 
-#[derive(Clone, Copy)]
-pub enum Listed {
-    Count(usize),
-    Refused(Refusal),
-}
-
 // Whether an address can mean a cell.
 #[tactic(auto, unfolding(crate::specs::Test::names))]
 fn names_cell(x: u16, cell: u16) -> bool
     ensures { result ≡ names x cell }
 {
-    if x == cell {
-        return true;
-    }
-    x == 0x0F
+    x == cell || x == 0x0F
 }
 
 // The address that a word names.
@@ -38,31 +29,20 @@ pub fn named(word: u16) -> u16
     ensures { result ≡ named_of word }
 {
     if word < 0x4000 {
-        return word % 1024;
+        word % 1024
+    } else {
+        word % 128
     }
-    word % 128
 }
 
 // A code's row: for each value of a word's bits 10-7 a bit, whether it writes what can differ.
-#[tactic(auto, unfolding(crate::specs::Bits::row_of, crate::specs::Bits::rows))]
+#[tactic(auto, using(crate::proofs::Bits::bank_rows), unfolding(crate::specs::Bits::row_of, crate::specs::Bits::rows))]
 fn row(code: u16) -> u16
     ensures { result ≡ row_of code }
 {
     match code {
-        0 => 0xFF00,
-        1 => 0xFF00,
-        2 => 0xFF00,
-        3 => 0xFF00,
-        4 => 0xFF00,
-        5 => 0xFF00,
-        6 => 0xFF00,
-        7 => 0xFF00,
-        8 => 0,
-        9 => 0xFFFE,
-        10 => 0,
-        11 => 0xFFFE,
-        12 => 0xFFFE,
-        13 => 0xFFFE,
+        0..=7 => 0xFF00,
+        9 | 11..=13 => 0xFFFE,
         14 => 0x7FFF,
         15 => 0xFFFF,
         25 => 0x0440,
@@ -80,92 +60,71 @@ pub fn changes(word: u16) -> bool
 }
 
 // Whether a word's instruction can leave a cell of data, display or scan with another value; a word that is not listed is none.
+#[tactic(auto, using(crate::proofs::Bits::writes_by_bits))]
 pub fn writes(word: u16, cell: u16) -> bool
     ensures { result ≡ writes_of word cell }
 {
-    if names_cell(named(word), cell) {
-        return changes(word);
-    }
-    false
+    names_cell(named(word), cell) && changes(word)
 }
 
 // Whether a cell can be asked about, whatever number it is.
+#[tactic(auto, using(crate::proofs::Laws::askable_past))]
 pub fn askable(cell: u32) -> bool
     ensures { result ≡ askable_of cell }
 {
-    if cell < 0x10000 {
-        return map::askable(cell as u16);
-    }
-    false
+    cell < 0x10000 && map::askable(cell as u16)
 }
 
 // How many writers the list has.
-#[tactic(auto, unfolding(crate::specs::List::writers_of))]
+#[tactic(auto, using(crate::proofs::Laws::writers_count), unfolding(crate::specs::List::writers_of))]
 fn count(program: &[u16], cell: u16) -> usize
     ensures { result ≡ length (writers_of program.now cell) }
 {
-    let mut found: usize = 0;
-    let mut i: usize = 0;
-    while i < program.len() {
-        if writes(program[i], cell) {
-            found += 1;
-        }
-        i += 1;
-    }
-    found
+    program.iter().filter(|word| writes(**word, cell)).count()
 }
 
 // The list in the room, and its length; what stands beyond it stays.
-#[tactic(auto, unfolding(crate::specs::List::writers_of))]
+#[tactic(auto, using(crate::proofs::Laws::placed_start), unfolding(crate::specs::List::writers_of))]
 fn fill(program: &[u16], cell: u16, room: &mut [u16]) -> usize
     requires { (length program.now ≡ 4096) × (length (writers_of program.now cell) ≤ length room.old) }
     ensures { (result ≡ length (writers_of program.now cell)) × (room.new ≡ over (writers_of program.now cell) room.old) }
 {
     let mut n: usize = 0;
-    let mut a: usize = 0;
-    while a < program.len() {
-        if writes(program[a], cell) {
+    for (a, word) in program.iter().enumerate() {
+        if writes(*word, cell) {
             room[n] = a as u16;
             n += 1;
         }
-        a += 1;
     }
     n
 }
 
-// A room that may be too small: the writers are counted before any is written.
-fn fill_counted(program: &[u16], cell: u16, room: &mut [u16]) -> Listed
-    requires { length program.now ≡ 4096 }
-    ensures { outcome result room.new ≡ filled_of (writers_of program.now cell) room.old }
-{
-    let n = count(program, cell);
-    if room.len() < n {
-        return Listed::Refused(Refusal::Room(n as u64));
-    }
-    Listed::Count(fill(program, cell, room))
-}
-
-// A room for as many addresses as there are words is filled in one pass.
-#[tactic(auto, unfolding(crate::specs::List::writers_of))]
-fn fill_room(program: &[u16], cell: u16, room: &mut [u16]) -> Listed
+// A room for as many addresses as there are words is filled in one pass; one that may be too small has the writers counted before any is
+// written.
+#[tactic(auto, using(crate::proofs::Laws::few), unfolding(crate::specs::Answer::filled_of, crate::specs::List::writers_of))]
+fn fill_room(program: &[u16], cell: u16, room: &mut [u16]) -> Result<usize, Refusal>
     requires { length program.now ≡ 4096 }
     ensures { outcome result room.new ≡ filled_of (writers_of program.now cell) room.old }
 {
     if room.len() < Machine::WORDS {
-        return fill_counted(program, cell, room);
+        let n = count(program, cell);
+        if room.len() < n {
+            return Err(Refusal::Room(n as u64));
+        }
     }
-    Listed::Count(fill(program, cell, room))
+    Ok(fill(program, cell, room))
 }
 
 // The addresses at which the instruction can leave the cell with another value, ascending, and how many they are.
-pub fn list(program: &[u16], cell: u32, room: &mut [u16]) -> Listed
+#[tactic(auto, using(crate::proofs::Cell::past_registers), unfolding(crate::specs::Answer::list_of))]
+pub fn list(program: &[u16], cell: u32, room: &mut [u16]) -> Result<usize, Refusal>
     ensures { outcome result room.new ≡ list_of program.now cell room.old }
 {
     if program.len() != Machine::WORDS {
-        return Listed::Refused(Refusal::ProgramLength(program.len() as u64));
+        return Err(Refusal::ProgramLength(program.len() as u64));
     }
     if !askable(cell) {
-        return Listed::Refused(Refusal::NotAskable(cell as u64));
+        return Err(Refusal::NotAskable(cell as u64));
     }
     fill_room(program, cell as u16, room)
 }

@@ -1,5 +1,6 @@
 -- What the calls say (02, P7): an answer is demand 3's list, replacing gives what a fresh build gives and alters no other entry, and 29
 -- is told exactly when the tables are not the fresh build's.
+use Rattle.std.specs.Prelude.{Err, Ok, Result}
 use mathlib.Core.Path.{◌≡◌, ◌∙◌, refl, sym, ap}
 use mathlib.Core.Logic.{◌⊎◌, inl, inr, ⊎_elim}
 use mathlib.Core.Bool.{Bool, true, false}
@@ -14,11 +15,8 @@ use Rattle.lent.specs.Outcome.{Outcome, outcome}
 use Rattle.lent.proofs.Laws.{test, by_lt, by_test}
 use Rattle.refusal.specs.declared.Refusal.TheVariants.{Tables}
 use Rattle.sh_map.specs.Map.{askable_of}
-use Rattle.answer.specs.declared.Outcome.TheVariants as done
 use Rattle.wire.specs.Words.{words_of, pairs_of}
 use Rattle.wire.proofs.Laws.{length_words, length_pair_set}
-use Rattle.writers.specs.declared.Listed.{Listed}
-use Rattle.writers.specs.declared.Listed.TheVariants.{Refused}
 use Rattle.writers.specs.List.{writers_of, Has}
 use Rattle.writers.specs.Answer.{filled_of}
 use Rattle.tables.specs.Key.{key_of, under}
@@ -31,6 +29,7 @@ use Rattle.xref.specs.Replace.{Replaced, replaced, build_of, word_replaced, chan
 use Rattle.xref.proofs.Words.{replaced_here, replaced_there}
 use Rattle.xref.proofs.Entries.{entry_kept, kept_entry}
 use Rattle.xref.proofs.Join.{joined_exact}
+use Rattle.refusal.specs.declared.Refusal.{Refusal}
 
 -- What a joined list has, where its first word stands at a.
 module _ (c x : ℕ) where
@@ -110,37 +109,37 @@ module _ (body t : List ℕ) (c : ℕ) (room : List ℕ) (n : length body ≡ 81
   answer_exact f = rw (eq-eqb (length body) 8192 n, h, fresh_matches body t f, joined_exact (words_of body 4096) c h)
 
   -- "29 if the tables don't match the program they are given with"
-  pub list_29 : (Fresh body t → ⊥) → list_of body t c room ≡ outcome (Refused Tables) room
+  pub list_29 : (Fresh body t → ⊥) → list_of body t c room ≡ outcome (Err Tables) room
   unfolding list_of answered_of
   list_29 f = rw (eq-eqb (length body) 8192 n, h, other_fails body t f)
 
-  pub list_29_only : (list_of body t c room).answer ≡ Refused Tables → Fresh body t → ⊥
+  pub list_29_only : (list_of body t c room).answer ≡ Err Tables → Fresh body t → ⊥
   unfolding filled_of
   list_29_only e f =
       let l = pairs_of (writers_of (words_of body 4096) c) (length (writers_of (words_of body 4096) c)) in
-      let Says : Outcome Listed → Type 0 = λ r. r.answer ≡ Refused Tables → ⊥ in
+      let Says : Outcome (Result ℕ Refusal) → Type 0 = λ r. r.answer ≡ Err Tables → ⊥ in
       let r : Says (filled_of l room) = by_lt Says (length room) (length l) _ _ (λ _ q. let z : ◌≡◌ {A = ℕ} 0 1 = cc in absurd (omega arith)) (λ _ q. let z : ◌≡◌ {A = ℕ} 0 1 = cc in absurd (omega arith)) in
-      r (sym (ap (λ (r : Outcome Listed). r.answer) (answer_exact f)) ∙ e)
+      r (sym (ap (λ (r : Outcome (Result ℕ Refusal)). r.answer) (answer_exact f)) ∙ e)
 
 module _ (body t : List ℕ) (a w : ℕ) (n : length body ≡ 8192) (h : a < 4096) where
-  pub replace_29 : (Fresh body t → ⊥) → replace_of body t a w ≡ replaced (done.Refused Tables) body t
+  pub replace_29 : (Fresh body t → ⊥) → replace_of body t a w ≡ replaced (Err Tables) body t
   unfolding replace_of changed_of
   replace_29 f = rw (eq-eqb (length body) 8192 n, lt-ltb a 4096 h, other_fails body t f)
 
   -- the word is written, and the tables are those of the program with it
-  pub replace_done : Fresh body t → replace_of body t a w ≡ replaced done.Done (pair_set_of body (a * 2) w) (built_of (words_of (pair_set_of body (a * 2) w) 4096) t)
+  pub replace_done : Fresh body t → replace_of body t a w ≡ replaced (Ok tt) (pair_set_of body (a * 2) w) (built_of (words_of (pair_set_of body (a * 2) w) 4096) t)
   unfolding replace_of changed_of word_replaced
   replace_done f = rw (eq-eqb (length body) 8192 n, lt-ltb a 4096 h, fresh_matches body t f)
 
-  pub replace_29_only : (replace_of body t a w).answer ≡ done.Refused Tables → Fresh body t → ⊥
+  pub replace_29_only : (replace_of body t a w).answer ≡ Err Tables → Fresh body t → ⊥
   replace_29_only e f =
-      let q : done.Done ≡ done.Refused Tables = sym (ap (λ (r : Replaced). r.answer) (replace_done f)) ∙ e in
+      let q : ◌≡◌ {A = Result (Unit {0}) Refusal} (Ok tt) (Err Tables) = sym (ap (λ (r : Replaced). r.answer) (replace_done f)) ∙ e in
       let z : ◌≡◌ {A = ℕ} 0 1 = cc in
       absurd (omega arith)
 
   module _ (f : Fresh body t) where
     -- "Replacing one program word must give what a fresh build would"
-    pub replaced_fresh : build_of (replace_of body t a w).program t ≡ outcome done.Done (replace_of body t a w).tables
+    pub replaced_fresh : build_of (replace_of body t a w).program t ≡ outcome (Ok tt) (replace_of body t a w).tables
     unfolding build_of
     replaced_fresh =
         rw (replace_done f, length_pair_set body (a * 2) w, eq-eqb (length body) 8192 n, le-ltb (length t) 5120 f.0)

@@ -11,6 +11,7 @@ use tables::{fresh, keys};
 const NOP: u16 = 0xFFFF;
 
 // The place in a cell's chain that leads to an address or past it.
+// A while, since a chain is walked by its links and not by a count.
 fn before(program: &[u8], tables: &[u16], cell: usize, address: usize) -> usize
     requires { Held program.now tables.now × (cell < 1024) × (address < 4096) }
     ensures { Leads (words_of program.now 4096) cell address result }

@@ -11,7 +11,6 @@ ghost use Rattle.xref.specs.Answer.{joined_of};
 use refusal::Refusal;
 use tables::keys;
 use wire::words;
-use writers::Listed;
 
 #[tactic(auto, unfolding(crate::specs::Chain::least_of))]
 fn least(a: u16, b: u16) -> u16
@@ -35,6 +34,7 @@ fn after(at: u16, taken: u16, next: u16) -> u16
 }
 
 // The addresses, and how many they are.
+// A while, since both chains are walked by their links and not by a count.
 fn join(program: &[u8], tables: &[u16], cell: usize, found: &mut [u16]) -> usize
     requires { Held program.now tables.now × (askable_of cell ≡ true) × (length found.old ≡ 4096) }
     ensures { (result ≡ length (joined_of (words_of program.now 4096) cell)) × (found.new ≡ over (joined_of (words_of program.now 4096) cell) found.old) }
@@ -55,20 +55,25 @@ fn join(program: &[u8], tables: &[u16], cell: usize, found: &mut [u16]) -> usize
 }
 
 // The first n addresses as bytes, in the room.
-fn fill(found: &[u16], n: usize, room: &mut [u8]) -> Listed
+fn fill(found: &[u16], n: usize, room: &mut [u8]) -> Result<usize, Refusal>
     requires { n ≤ 4096 }
     ensures { outcome result room.new ≡ filled_of (pairs_of found.now n) room.old }
 {
     let needed = n * 2;
     if room.len() < needed {
-        return Listed::Refused(Refusal::Room(needed as u64));
+        return Err(Refusal::Room(needed as u64));
     }
     words::put_words(found, n, room);
-    Listed::Count(needed)
+    Ok(needed)
 }
 
 // The writers of a cell, two bytes each.
-pub fn answer(program: &[u8], tables: &[u16], cell: usize, room: &mut [u8]) -> Listed
+pub fn answer(
+    program: &[u8],
+    tables: &[u16],
+    cell: usize,
+    room: &mut [u8],
+) -> Result<usize, Refusal>
     requires { Held program.now tables.now × (askable_of cell ≡ true) }
     ensures { outcome result room.new ≡ filled_of (pairs_of (joined_of (words_of program.now 4096) cell) (length (joined_of (words_of program.now 4096) cell))) room.old }
 {

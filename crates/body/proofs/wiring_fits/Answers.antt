@@ -1,21 +1,22 @@
--- `body::wiring_fits`: the invariant is that the elements from k on fit where all of them do.
+-- `body::wiring_fits`: the search goes over every element.
+use Rattle.std.proofs.Common.{rules}
+use Rattle.std.proofs.lemmas.Iterator.{cases_from_all, YieldsList-from_range}
+use mathlib.Core.Path.{◌≡◌}
+use mathlib.Core.Bool.{true, false}
 use native.Mathlib.Omega.{arith}
-use Rattle.body.proofs.Laws.{elements_bad, elements_end, elements_on}
 use lib.ListN.{length}
-use mathlib.Core.Path.{refl, ◌∙◌, ◌≡◌}
-use Rattle.body.specs.Body.{wiring_fits}
-use Prim.Native.Nat.{◌-◌, ◌/◌}
+use Prim.Native.Nat.{◌/◌}
+use Rattle.body.specs.Body.{element_fits, wiring_fits}
+use Rattle.body.proofs.Laws.{elements_by}
 use Rattle.body.proofs.wiring_fits.Goals as goal
 
-pub loop-k-init : goal.loop-k-init
-unfolding wiring_fits
-loop-k-init c = (refl, (omega arith, let e : length c.args.wiring.now / 3 - 0 ≡ length c.args.wiring.now / 3 = omega arith in rw e))
-
-pub returns-then-not-element_fits : goal.returns-then-not-element_fits
-returns-then-not-element_fits c = elements_bad _ _ _ c.loop-k-test.true _ c.element_fits.ensures (c.if-not-element_fits.true) ∙ c.loop-k.invariant.1.1
-
-pub loop-k-preserved : goal.loop-k-preserved
-loop-k-preserved c = (refl, (omega arith, elements_on _ _ _ c.loop-k-test.true _ c.element_fits.ensures (c.if-not-element_fits.false) ∙ c.loop-k.invariant.1.1))
-
 pub returns : goal.returns
-returns c = elements_end _ _ _ c.loop-k-test.false ∙ c.loop-k.invariant.1.1
+unfolding wiring_fits
+returns c =
+    let w = c.args.wiring.now in
+    let n = length w / 3 in
+    elements_by w n c.all.result
+    (cases_from_all _ _ _ (λ k. element_fits w k ≡ true) (λ k. element_fits w k ≡ false) c.all.ensures.ran
+    (YieldsList-from_range 0 n n (cc) (omega arith))
+    (λ x q k. search rules)
+    (λ x q k. search rules))

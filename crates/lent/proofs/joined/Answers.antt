@@ -1,24 +1,17 @@
--- `lent::joined`: the invariant is that the bits of the bytes before i are taken together.
-use native.Mathlib.Omega.{arith}
-use Rattle.lent.proofs.Bits.{joined_end, joined_none, joined_on}
+use Rattle.std.proofs.Common.{refl, arith, length-take, length-drop, drop, ◌≡◌, ◌-◌}
+use Rattle.lent.specs.Lent.{joined_of}
+use Rattle.lent.proofs.Bits.{joined_on}
 use Rattle.lent.proofs.joined.Goals as goal
 
-pub loop-i-init : goal.loop-i-init
-loop-i-init c = (omega arith, c.requires.0, joined_none _ _)
+pub loop-b-init : goal.loop-b-init
+unfolding joined_of
+loop-b-init c = refl
 
-pub bounds-bytes-i : goal.bounds-bytes-i
-bounds-bytes-i c = omega (arith, c.loop-i-test.true, c.requires.1)
-
-pub overflow_add-i : goal.overflow_add-i
-overflow_add-i c = omega (arith, c.loop-i-test.true, c.ranges.e)
-
-pub loop-i-preserved : goal.loop-i-preserved
-loop-i-preserved c =
-    let l = c.loop-i in
-    let s = c.args in
-    (omega (arith, l.invariant.0), omega arith, joined_on s.bytes.now s.a l.i l.bits l.invariant.0 l.invariant.2)
+pub loop-b-preserved : goal.loop-b-preserved
+loop-b-preserved c = joined_on c.args.bytes.now c.args.a _ _ _ c.loop-b-test.true c.loop-b.invariant
 
 pub returns : goal.returns
 returns c =
-    let v = c.loop-i.invariant in
-    joined_end _ _ _ _ v.1 c.loop-i-test.false v.2
+    let a = c.args in
+    let e : a.e - a.a ≡ c.loop-b.b-index = omega (arith, length-take (a.e - a.a) (drop a.a a.bytes.now), length-drop a.a a.bytes.now) in
+    rw e c.loop-b.invariant

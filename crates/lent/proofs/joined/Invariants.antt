@@ -1,11 +1,7 @@
--- `lent::joined`: the invariant is that the bits of the bytes before i are taken together.
+-- `lent::joined`: the bits of the bytes so far are taken together.
+use Rattle.std.proofs.Common.{◌≡◌}
 use Rattle.lent.specs.Lent.{joined_of}
-use Prim.Native.Nat.{◌-◌, ◌≤◌}
-use mathlib.Core.Path.{◌≡◌}
 use Rattle.lent.proofs.joined.Given as goal
 
-abbrev pub invariant-loop-i : goal.invariant-loop-i
-invariant-loop-i l = (l.a ≤ l.i) × (l.i ≤ l.e) × (l.bits ≡ joined_of l.bytes l.a (l.i - l.a))
-
-abbrev pub decreases-loop-i : goal.decreases-loop-i
-decreases-loop-i l = l.e - l.i
+abbrev pub invariant-loop-b : goal.invariant-loop-b
+invariant-loop-b l = l.bits ≡ joined_of l.bytes l.a l.b-index

@@ -2,8 +2,8 @@
 use Rattle.line.proofs.Laws.{operand_laid, operand_none}
 use Rattle.line.proofs.put_operand.Goals as goal
 
-pub returns-then-k-eq0 : goal.returns-then-k-eq0
-returns-then-k-eq0 c = operand_none _ _ _ _ c.if-k-eq0.true
+pub returns-in-None : goal.returns-in-None
+returns-in-None c = operand_none _ _ _ c.in-None.is
 
-pub returns : goal.returns
-returns c = operand_laid _ _ _ _ _ c.if-k-eq0.false c.poke.ensures c.put_number.ensures
+pub returns-in-Some : goal.returns-in-Some
+returns-in-Some c = operand_laid _ _ _ c.in-Some.k _ c.in-Some.is c.poke.ensures c.put_number.ensures

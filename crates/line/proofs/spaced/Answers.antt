@@ -1,7 +1,10 @@
 -- `line::spaced`: the number, and the space.
-use native.Mathlib.Omega.{arith}
-use Rattle.line.proofs.Laws.{spaced_read}
+use mathlib.Core.Path.{refl}
+use Rattle.line.proofs.Laws.{and_else, and_then, spaced_read}
 use Rattle.line.proofs.spaced.Goals as goal
 
-pub returns : goal.returns
-returns c = spaced_read c.args.text.now c.args.p c.args.digits c.args.v (omega arith) c.requires.1.1 c.number-n.ensures c.peek-c.ensures c.both.ensures
+pub returns-then-eq : goal.returns-then-eq
+returns-then-eq c = and_then _ _ (spaced_read c.args.text.now c.args.p c.args.digits c.args.v c.requires.1.1 c.number.ensures c.eq.ensures c.peek.ensures) c.if-eq.true
+
+pub returns-else-eq : goal.returns-else-eq
+returns-else-eq c = and_else _ _ (spaced_read c.args.text.now c.args.p c.args.digits c.args.v c.requires.1.1 c.number.ensures c.eq.ensures refl) c.if-eq.false

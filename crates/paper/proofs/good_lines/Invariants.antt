@@ -8,10 +8,7 @@ use Rattle.paper.proofs.good_lines.Given as goal
 
 abbrev pub invariant-loop-a : goal.invariant-loop-a
 invariant-loop-a l =
-    (l.a ≤ 4096) × (l.p ≤ l.a * 21) × (length l.words ≡ length l.initial.words)
+    (l.p ≤ l.a * 21)
     × (l.a + length (good_from (4096 - l.a) l.a (drop l.p l.text)) ≡ length (good_lines l.text))
     × (l.p + length (lines_of l.a (good_from (4096 - l.a) l.a (drop l.p l.text))) ≡ length (listing_of (good_lines l.text)))
     × (laid_of l.words l.a (good_from (4096 - l.a) l.a (drop l.p l.text)) ≡ laid_of l.initial.words 0 (good_lines l.text))
-
-abbrev pub decreases-loop-a : goal.decreases-loop-a
-decreases-loop-a l = 4096 - l.a

@@ -18,16 +18,16 @@ loop-memory-smaller c = omega (arith, c.ahead-q.ensures.from, c.passed-o.ensures
 pub loop-memory-preserved : goal.loop-memory-preserved
 loop-memory-preserved c =
     let v = c.loop-memory.invariant in
-    (c.passed-o.ensures.to, omega (arith, v.1, c.memory-1.given, c.memory-in-loop-memory-1.given), passed_on c.passed-o.ensures c.if-o.false c.if-o-2.false ∙ (gone_on c.ahead-q.ensures c.if-q.false ∙ v.2))
+    (c.passed-o.ensures.to, passed_on c.passed-o.ensures c.if-o.false c.if-o-2.false ∙ (gone_on c.ahead-q.ensures c.if-q.false ∙ v.1))
 
 pub returns-then-q : goal.returns-then-q
-returns-then-q c = gone_at c.ahead-q.ensures c.if-q.true ∙ c.loop-memory.invariant.2
+returns-then-q c = gone_at c.ahead-q.ensures c.if-q.true ∙ c.loop-memory.invariant.1
 
 pub returns-then-script-i : goal.returns-then-script-i
-returns-then-script-i c = run_end _ _ _ _ _ c.if-script-i.true ∙ (gone_on c.ahead-q.ensures c.if-q.false ∙ c.loop-memory.invariant.2)
+returns-then-script-i c = run_end _ _ _ _ _ c.if-script-i.true ∙ (gone_on c.ahead-q.ensures c.if-q.false ∙ c.loop-memory.invariant.1)
 
 pub returns-then-o : goal.returns-then-o
-returns-then-o c = passed_stuck c.passed-o.ensures c.if-o.true ∙ (gone_on c.ahead-q.ensures c.if-q.false ∙ c.loop-memory.invariant.2)
+returns-then-o c = passed_stuck c.passed-o.ensures c.if-o.true ∙ (gone_on c.ahead-q.ensures c.if-q.false ∙ c.loop-memory.invariant.1)
 
 pub returns-then-o-2 : goal.returns-then-o-2
-returns-then-o-2 c = passed_at c.passed-o.ensures c.if-o.false c.if-o-2.true ∙ (gone_on c.ahead-q.ensures c.if-q.false ∙ c.loop-memory.invariant.2)
+returns-then-o-2 c = passed_at c.passed-o.ensures c.if-o.false c.if-o-2.true ∙ (gone_on c.ahead-q.ensures c.if-q.false ∙ c.loop-memory.invariant.1)

@@ -8,7 +8,7 @@ use Rattle.sh_run.proofs.run.Given as goal
 
 abbrev pub invariant-loop-memory : goal.invariant-loop-memory
 invariant-loop-memory l =
-    (l.i ≤ length l.script) × (length l.memory ≡ length l.initial.memory) × (run_of l.program l.target (drop l.i l.script) (state l.m l.memory) l.i ≡ run_of l.program l.target l.script (state l.initial.m l.initial.memory) 0)
+    (l.i ≤ length l.script) × (run_of l.program l.target (drop l.i l.script) (state l.m l.memory) l.i ≡ run_of l.program l.target l.script (state l.initial.m l.initial.memory) 0)
 
 abbrev pub decreases-loop-memory : goal.decreases-loop-memory
 decreases-loop-memory l = length l.script - l.i

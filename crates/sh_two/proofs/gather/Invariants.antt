@@ -1,5 +1,5 @@
--- `sh_two::gather`: the invariant is that what was gathered, and the car's own of what is left, are its own of the part.
-use lib.ListN.{length, take}
+-- `sh_two::gather`: what was gathered, and the car's own of what is left, are its own of the part.
+use lib.ListN.{take}
 use Rattle.sh_two.specs.Two.{own_of}
 use Rattle.sh_two.specs.Alone.{part_of}
 use mathlib.Core.List.{◌++◌}
@@ -8,8 +8,7 @@ use mathlib.Core.Path.{◌≡◌}
 use Rattle.sh_two.proofs.gather.Given as goal
 
 abbrev pub invariant-loop-i : goal.invariant-loop-i
-invariant-loop-i l =
-    (l.first ≤ l.i) × (l.i ≤ l.end) × (l.n ≤ l.i - l.first) × (length l.events ≡ length l.initial.events) × (take l.n l.events ++ own_of l.number (part_of l.script l.i l.end) ≡ own_of l.number (part_of l.script l.first l.end))
-
-abbrev pub decreases-loop-i : goal.decreases-loop-i
-decreases-loop-i l = l.end - l.i
+invariant-loop-i l = record {
+  few : l.n ≤ l.i - l.first;
+  whole : take l.n l.events ++ own_of l.number (part_of l.script l.i l.end) ≡ own_of l.number (part_of l.script l.first l.end);
+}

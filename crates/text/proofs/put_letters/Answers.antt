@@ -1,17 +1,16 @@
 -- `text::put_letters`: what is laid and what is still to be laid is the whole.
-use mathlib.Core.Path.{ap, refl, ◌∙◌}
+use mathlib.Core.Path.{◌∙◌}
 use native.Mathlib.Omega.{arith}
-use lib.ListN.{length, length-set}
-use Rattle.text.proofs.Laws.{letters_end, put_letter}
+use Prim.Native.Nat.{◌+◌}
+use Rattle.text.proofs.Laws.{letter_on, letters_end}
 use Rattle.text.proofs.put_letters.Goals as goal
 
 pub loop-k-preserved : goal.loop-k-preserved
 loop-k-preserved c =
     let l = c.loop-k in
-    let k = c.poke.ensures in
-    (omega arith, ap length k ∙ (length-set l.room _ _ ∙ l.invariant.1), put_letter l.room _ _ l.k _ l.x (omega arith) k (refl) ∙ l.invariant.2)
+    letter_on l.room c.args.p l.k c.args.name.now (omega arith) c.poke.ensures ∙ l.invariant
 
 pub returns : goal.returns
 returns c =
     let l = c.loop-k in
-    letters_end l.room _ l.x (omega arith) ∙ l.invariant.2
+    letters_end l.room (c.args.p + l.k) l.k c.args.name.now (omega arith) ∙ l.invariant

@@ -1,4 +1,4 @@
--- `tones::divider`: the loop's invariant is that no N below n has the value; the table's rule says that the N found is the one printed.
+-- `tones::divider`: the table's rule says that the N found is the one printed.
 use mathlib.Core.List.{List}
 use mathlib.Core.Path.{ap, sym, ◌∙◌, ◌≡◌}
 use native.Mathlib.Omega.{arith}
@@ -32,20 +32,13 @@ module _ (v n : ℕ) (h : 0 < n) (k : n < 128) where
       absurd (u (table_at n h k ∙ (ap tone_of (sym e) ∙ table_once.back v (omega arith)))))
       (λ t. let e = eqb-false (divider_of v) n t in p (omega arith))
 
-pub loop-n-init : goal.loop-n-init
-loop-n-init c = (omega arith, omega arith, λ h. omega arith)
-
-pub returns-then-tones-i : goal.returns-then-tones-i
+pub returns-then-tones-n : goal.returns-then-tones-n
 unfolding table made printed before tone_of
-returns-then-tones-i c = found _ c.loop-n.n (omega arith) (omega arith) c.if-tones-i.true
+returns-then-tones-n c = found _ c.loop-n.n (omega arith) (omega arith) c.if-tones-n.true
 
 pub loop-n-preserved : goal.loop-n-preserved
 unfolding table made printed before tone_of
-loop-n-preserved c =
-    let l = c.loop-n in
-    (omega arith, omega arith, missed _ l.n (omega arith) (omega arith) c.if-tones-i.false l.invariant.2)
+loop-n-preserved c = missed _ c.loop-n.n (omega arith) (omega arith) c.if-tones-n.false c.loop-n.invariant
 
 pub returns : goal.returns
-returns c =
-    let l = c.loop-n in
-    sym (l.invariant.2 (omega (arith, divider_small c.args.v)))
+returns c = sym (c.loop-n.invariant (omega (arith, divider_small c.args.v)))

@@ -1,24 +1,20 @@
--- `call_two::script::fine`: the invariant is that what was found and what is left give what is of the whole.
+-- `call_two::script::fine`: one part more is found.
 use native.Mathlib.Omega.{arith}
+use Rattle.std.proofs.lemmas.List.{length-take, length-drop}
 use Rattle.lent.specs.Lent.{both}
-use Rattle.call_two.proofs.Scripts.{many_fine, part_last}
-use Rattle.call_run.proofs.Laws.{part_on}
-use mathlib.Core.Path.{refl, ◌∙◌}
+use Rattle.call_two.specs.Script.{fine_of}
+use Rattle.call_two.proofs.Scripts.{part_fine}
+use lib.ListN.{length, take, drop}
+use Prim.Native.Nat.{ℕ, ◌+◌, ◌-◌, ◌*◌, ◌%◌}
+use mathlib.Core.Path.{◌≡◌, refl, ap, ◌∙◌}
 use Rattle.call_two.proofs.script.fine.Goals as goal
 
-pub loop-i-preserved-then-joined-gt1 : goal.loop-i-preserved-then-joined-gt1
-loop-i-preserved-then-joined-gt1 c =
-    let k = c.fine_by_one in
-    let l = c.loop-i in
-    (omega arith, part_on k.result l.ok _ _ _ k.ensures c.both-ok.ensures ∙ l.invariant.1)
-
-pub loop-i-preserved : goal.loop-i-preserved
-loop-i-preserved c =
-    let l = c.loop-i in
-    (omega arith, rw (many_fine _ l.i 32 (omega arith) c.joined.ensures c.if-joined-gt1.false) l.invariant.1)
-
-pub returns : goal.returns
-returns c =
-    let k = c.fine_by_one-2 in
-    let l = c.loop-i in
-    part_last c.args.script.now k.result l.ok _ _ l.i _ refl k.ensures l.invariant.1 c.both.ensures c.both-2.ensures
+pub loop-k-preserved : goal.loop-k-preserved
+loop-k-preserved c =
+    let l = c.args.script.now in
+    let i = c.loop-k.k * 64 in
+    let e : (c.loop-k.k + 1) * 64 ≡ i + (i + 64 - i) = omega arith in
+    let h : length (take (i + 64 - i) (drop i l)) % 2 ≡ 0 =
+    simp (length-take, length-drop) (omega (arith, c.loop-k-test.true)) in
+    ap (λ (n : ℕ). both c.both-ok.result (fine_of (drop n l))) e
+    ∙ (part_fine l i (i + 64 - i) c.loop-k.ok h refl c.many_fine.ensures c.both-ok.ensures ∙ c.loop-k.invariant)

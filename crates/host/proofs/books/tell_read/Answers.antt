@@ -2,8 +2,8 @@
 use Rattle.host.proofs.Laws.{read_found, read_refused}
 use Rattle.host.proofs.books.tell_read.Goals as goal
 
-pub returns-in-Parts : goal.returns-in-Parts
-returns-in-Parts c = search (read_found, read_refused)
+pub returns-in-Ok : goal.returns-in-Ok
+returns-in-Ok c = search (read_found, read_refused)
 
-pub returns-in-Refused : goal.returns-in-Refused
-returns-in-Refused c = search (read_found, read_refused)
+pub returns-in-Err : goal.returns-in-Err
+returns-in-Err c = search (read_found, read_refused)

@@ -6,8 +6,8 @@ use Rattle.host.proofs.list.asked.Goals as goal
 pub fill-requires : goal.fill-requires
 fill-requires c = search (counted_told, refused_told_lem, counted_within, length_words)
 
-pub returns-in-Count : goal.returns-in-Count
-returns-in-Count c = search (counted_told, refused_told_lem, counted_within, length_words)
+pub returns-in-Ok : goal.returns-in-Ok
+returns-in-Ok c = search (counted_told, refused_told_lem, counted_within, length_words)
 
-pub returns-in-Refused : goal.returns-in-Refused
-returns-in-Refused c = search (counted_told, refused_told_lem, counted_within, length_words)
+pub returns-in-Err : goal.returns-in-Err
+returns-in-Err c = search (counted_told, refused_told_lem, counted_within, length_words)

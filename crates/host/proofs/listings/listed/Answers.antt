@@ -1,6 +1,7 @@
 -- `host::listings::listed`: the words read, the listing written.
-use Rattle.host.proofs.Paper.{listed_told_lem}
+use mathlib.Core.Path.{◌∙◌}
+use Rattle.host.proofs.Paper.{listed_told_lem, listing_counts}
 use Rattle.host.proofs.listings.listed.Goals as goal
 
 pub returns : goal.returns
-returns c = search listed_told_lem
+returns c = listed_told_lem _ _ _ _ _ _ c.words_of-w.ensures c.write-a.ensures (c.amount.ensures ∙ listing_counts _ _)

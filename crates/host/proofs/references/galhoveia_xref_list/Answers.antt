@@ -1,6 +1,7 @@
 -- `host::references::galhoveia_xref_list`: the call, and what is told of it.
-use Rattle.host.proofs.Tables.{list_told}
+use mathlib.Core.Path.{◌∙◌}
+use Rattle.host.proofs.Tables.{list_counts, list_told}
 use Rattle.host.proofs.references.galhoveia_xref_list.Goals as goal
 
 pub returns : goal.returns
-returns c = search list_told
+returns c = list_told _ _ _ _ _ c.list-a.ensures (c.amount.ensures ∙ list_counts _ _)

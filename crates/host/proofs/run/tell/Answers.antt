@@ -3,14 +3,9 @@ use Rattle.call_run.specs.Run.{reason_told}
 use Rattle.host.proofs.Laws.{stopped_at}
 use Rattle.host.proofs.run.tell.Goals as goal
 
-pub returns-in-Address : goal.returns-in-Address
-unfolding reason_told
-returns-in-Address c = search stopped_at
+pub returns-in-Ok : goal.returns-in-Ok
+returns-in-Ok c = search stopped_at
 
-pub returns-in-End : goal.returns-in-End
+pub returns-in-Err : goal.returns-in-Err
 unfolding reason_told
-returns-in-End c = search stopped_at
-
-pub returns-in-Refused : goal.returns-in-Refused
-unfolding reason_told
-returns-in-Refused c = search stopped_at
+returns-in-Err c = search stopped_at

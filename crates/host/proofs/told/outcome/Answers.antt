@@ -3,10 +3,10 @@ use Rattle.host.proofs.Laws.{outcome_at}
 use Rattle.answer.specs.Answer.{outcome_told}
 use Rattle.host.proofs.told.outcome.Goals as goal
 
-pub returns-in-Done : goal.returns-in-Done
+pub returns-in-Ok : goal.returns-in-Ok
 unfolding outcome_told
-returns-in-Done c = search outcome_at
+returns-in-Ok c = search outcome_at
 
-pub returns-in-Refused : goal.returns-in-Refused
+pub returns-in-Err : goal.returns-in-Err
 unfolding outcome_told
-returns-in-Refused c = search outcome_at
+returns-in-Err c = search outcome_at

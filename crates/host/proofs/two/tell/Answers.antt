@@ -3,10 +3,10 @@ use Rattle.host.proofs.Cars.{outs_at, outs_said}
 use Rattle.call_two.specs.RunTwo.{outs_of}
 use Rattle.host.proofs.two.tell.Goals as goal
 
-pub returns-in-Ended : goal.returns-in-Ended
+pub returns-in-Ok : goal.returns-in-Ok
 unfolding outs_of
-returns-in-Ended c = search (outs_at, outs_said)
+returns-in-Ok c = search (outs_at, outs_said)
 
-pub returns-in-Refused : goal.returns-in-Refused
+pub returns-in-Err : goal.returns-in-Err
 unfolding outs_of
-returns-in-Refused c = search (outs_at, outs_said)
+returns-in-Err c = search (outs_at, outs_said)

@@ -12,7 +12,7 @@ use Prim.Native.Nat.{◌+◌, ◌-◌}
 use Rattle.tables.proofs.fresh.write.Goals as goal
 
 pub loop-a-init : goal.loop-a-init
-loop-a-init c = (omega arith, refl, slots_start _ (length_words _ 4096), λ b h k. absurd (omega arith), λ i h. refl)
+loop-a-init c = (refl, slots_start _ (length_words _ 4096), λ b h k. absurd (omega arith), λ i h. refl)
 
 pub slot-x-requires : goal.slot-x-requires
 slot-x-requires c = (c.requires.0, omega arith, c.bases-bases.ensures)
@@ -46,28 +46,27 @@ loop-a-preserved c =
     let n = length_words c.args.program.now 4096 in
     let a = l.a - 1 in
     let z : l.a ≡ a + 1 = omega arith in
-    let h : Slotted p l.heads (a + 1) = subst (Slotted p l.heads) z l.invariant.2 in
-    let k : Linked p l.tables (a + 1) = subst (Linked p l.tables) z l.invariant.3 in
+    let h : Slotted p l.heads (a + 1) = subst (Slotted p l.heads) z l.invariant.1 in
+    let k : Linked p l.tables (a + 1) = subst (Linked p l.tables) z l.invariant.2 in
     let v = link_here p n a (omega arith) l.heads h c.slot-x.result c.slot-x.ensures in (
-      omega arith,
-      length-set l.tables (1024 + a) _ ∙ l.invariant.1,
+      length-set l.tables (1024 + a) _ ∙ l.invariant.0,
       slots_next p n a (omega arith) l.heads h c.slot-x.result c.slot-x.ensures q.result q.ensures,
-      links_stored p n l.tables a _ (omega arith) (omega (arith, c.requires.1, l.invariant.1)) k v,
-      λ i j. get_or-set_other l.tables (1024 + a) i _ 0 (λ q. absurd (omega arith)) ∙ l.invariant.4 i j,
+      links_stored p n l.tables a _ (omega arith) (omega (arith, c.requires.1, l.invariant.0)) k v,
+      λ i j. get_or-set_other l.tables (1024 + a) i _ 0 (λ q. absurd (omega arith)) ∙ l.invariant.3 i j,
     )
 
 pub slice_bounds-write_heads-end : goal.slice_bounds-write_heads-end
-slice_bounds-write_heads-end c = search (rules, c.loop-a.invariant.2)
+slice_bounds-write_heads-end c = search (rules, c.loop-a.invariant.1)
 
 pub write_heads-requires : goal.write_heads-requires
 write_heads-requires c =
     let l = c.loop-a in
-    (l.invariant.2.0, omega (arith, l.invariant.1, c.requires.1))
+    (l.invariant.1.0, omega (arith, l.invariant.0, c.requires.1))
 
 pub returns : goal.returns
 returns c =
     let l = c.loop-a in
     let p = words_of c.args.program.now 4096 in
     let z : l.a ≡ 0 = omega arith in
-    written p (length_words c.args.program.now 4096) l.tables l.heads (subst (Slotted p l.heads) z l.invariant.2)
-    (subst (Linked p l.tables) z l.invariant.3) c.args.tables.now _ l.invariant.1 l.invariant.4 c.write_heads.ensures
+    written p (length_words c.args.program.now 4096) l.tables l.heads (subst (Slotted p l.heads) z l.invariant.1)
+    (subst (Linked p l.tables) z l.invariant.2) c.args.tables.now _ l.invariant.0 l.invariant.3 c.write_heads.ensures

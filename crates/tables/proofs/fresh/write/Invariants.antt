@@ -9,8 +9,5 @@ use Rattle.tables.proofs.fresh.write.Given as goal
 
 abbrev pub invariant-loop-a : goal.invariant-loop-a
 invariant-loop-a l =
-    (l.a ≤ 4096) × (length l.tables ≡ length l.initial.tables) × Slotted (words_of l.program 4096) l.heads l.a × Linked (words_of l.program 4096) l.tables l.a
+    (length l.tables ≡ length l.initial.tables) × Slotted (words_of l.program 4096) l.heads l.a × Linked (words_of l.program 4096) l.tables l.a
     × ((i : ℕ) → 5120 ≤ i → at l.tables i ≡ at l.initial.tables i)
-
-abbrev pub decreases-loop-a : goal.decreases-loop-a
-decreases-loop-a l = l.a

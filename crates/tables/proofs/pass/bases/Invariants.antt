@@ -2,12 +2,9 @@
 use Rattle.lent.specs.Lent.{at}
 use Rattle.tables.specs.Pass.{base_of}
 use lib.ListN.{length}
-use Prim.Native.Nat.{ℕ, ◌-◌, ◌<◌, ◌≤◌}
+use Prim.Native.Nat.{ℕ, ◌<◌}
 use mathlib.Core.Path.{◌≡◌}
 use Rattle.tables.proofs.pass.bases.Given as goal
 
 abbrev pub invariant-loop-i : goal.invariant-loop-i
-invariant-loop-i l = (l.i ≤ 512) × (length l.b ≡ 512) × ((k : ℕ) → k < l.i → at l.b k ≡ base_of k)
-
-abbrev pub decreases-loop-i : goal.decreases-loop-i
-decreases-loop-i l = 512 - l.i
+invariant-loop-i l = (length l.b ≡ 512) × ((k : ℕ) → k < l.i → at l.b k ≡ base_of k)

@@ -2,13 +2,10 @@
 use lib.ListN.{length}
 use Rattle.wire.specs.Words.{pairs_of}
 use Rattle.lent.specs.Lent.{pasted_of}
-use Prim.Native.Nat.{◌*◌, ◌-◌, ◌≤◌}
+use Prim.Native.Nat.{◌*◌, ◌≤◌}
 use mathlib.Core.Path.{◌≡◌}
 use Rattle.wire.proofs.words.put_words.Given as goal
 
 abbrev pub invariant-loop-i : goal.invariant-loop-i
 invariant-loop-i l =
-    (l.i ≤ l.n) × ((l.n * 2 ≤ length l.initial.out) × ((length l.out ≡ length l.initial.out) × (l.out ≡ pasted_of l.initial.out 0 (pairs_of l.ws l.i))))
-
-abbrev pub decreases-loop-i : goal.decreases-loop-i
-decreases-loop-i l = l.n - l.i
+    (l.n * 2 ≤ length l.initial.out) × ((length l.out ≡ length l.initial.out) × (l.out ≡ pasted_of l.initial.out 0 (pairs_of l.ws l.i)))

@@ -16,16 +16,16 @@ stored b w i v h e f =
     ap (λ (k : ℕ). take k (set w i v)) (add-one i) ∙ (take-suc-set w i v h ∙ (ap (λ (l : List ℕ). l ++ v ∷ []) e ∙ (ap (λ (x : ℕ). words_of b i ++ x ∷ []) f ∙ sym (words_more b i))))
 
 pub loop-i-init : goal.loop-i-init
-loop-i-init c = (omega arith, (length-replicate {A = ℕ} 4096 0, sym (words_zero _)))
+loop-i-init c = (length-replicate {A = ℕ} 4096 0, sym (words_zero _))
 
 pub loop-i-preserved : goal.loop-i-preserved
 loop-i-preserved c =
     let l = c.loop-i in
     let b = c.args.body.now in
-    (omega arith, (length-set l.w l.i c.pair_at.result ∙ l.invariant.1.0, stored b l.w l.i _ (omega arith) l.invariant.1.1 c.pair_at.ensures))
+    (length-set l.w l.i c.pair_at.result ∙ l.invariant.0, stored b l.w l.i _ (omega arith) l.invariant.1 c.pair_at.ensures)
 
 pub returns : goal.returns
 returns c =
     let l = c.loop-i in
     let e : l.i ≡ 4096 = omega arith in
-    sym (take_all 4096 l.w (omega arith)) ∙ (ap (λ (k : ℕ). take k l.w) (sym e) ∙ (l.invariant.1.1 ∙ ap (words_of _) e))
+    sym (take_all 4096 l.w (omega arith)) ∙ (ap (λ (k : ℕ). take k l.w) (sym e) ∙ (l.invariant.1 ∙ ap (words_of _) e))
