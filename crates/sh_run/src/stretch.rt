@@ -70,7 +70,7 @@ pub struct Pause {
     pub reached: bool,
 }
 
-// Awake: the words that go, one after the other.
+// Awake: the words that go, one after the other. A `while`, since a `for` takes 44 instructions for a NOP, and this 39.
 #[tactic(auto, using(crate::proofs::Stretches::going_begun))]
 fn going(
     program: &[u16],
@@ -89,7 +89,8 @@ fn going(
     ensures { Going program.now target script.now m mode first end from memory.old begin result.reached result.core memory.new result.events }
 {
     let mut c = from;
-    for i in begin..end {
+    let mut i = begin;
+    while i < end {
         if script[i] != 0 {
             return Pause {
                 core: c,
@@ -114,10 +115,11 @@ fn going(
                 reached: true,
             };
         }
+        i += 1;
     }
     Pause {
         core: c,
-        events: end,
+        events: i,
         reached: false,
     }
 }
