@@ -23,12 +23,16 @@ fn within(memory: &[u8], a: usize, e: usize, top: u8) -> bool
     lent::joined(memory, a, e) <= top
 }
 
-// Whether each register holds no bit but its own.
+// Whether each register holds no bit but its own. All are looked at, with no way out at the first that does not: so many are at once.
 fn registers_fit(memory: &[u8]) -> bool
     requires { 32 ≤ length memory.now }
     ensures { result ≡ true → FitBelow memory.now 32 }
 {
-    (0..32).all(|i| cell_fits(i, memory[i]))
+    let mut fit = true;
+    for i in 0..32 {
+        fit &= cell_fits(i, memory[i]);
+    }
+    fit
 }
 
 // True only where every cell fits, by spans, which is quick; where it is false, the search decides. A line for each span: a table of
