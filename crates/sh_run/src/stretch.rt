@@ -70,7 +70,7 @@ pub struct Pause {
     pub reached: bool,
 }
 
-// Awake: the words that go, one after the other. A `while`, since a `for` takes 44 instructions for a NOP, and this 39.
+// Awake: the words that go, one after the other. A `while`, since a `for` takes 44 instructions for a NOP, and this 37.
 #[tactic(auto, using(crate::proofs::Stretches::going_begun))]
 fn going(
     program: &[u16],
@@ -108,14 +108,15 @@ fn going(
             };
         }
         c = r;
+        // before the test: with it behind, what a turn takes is looked at twice
+        i += 1;
         if at(c.pc, target) {
             return Pause {
                 core: c,
-                events: i + 1,
+                events: i,
                 reached: true,
             };
         }
-        i += 1;
     }
     Pause {
         core: c,
