@@ -81,7 +81,10 @@ pub fn paste(bytes: &mut [u8], i: usize, from: &[u8])
 {
     let n = from.len();
     if n <= bytes.len() && i <= bytes.len() - n {
-        bytes[i..i + n].copy_from_slice(from);
+        // A loop and not `copy_from_slice`, which has the archive need `memmove` from outside.
+        for (k, b) in from.iter().enumerate() {
+            bytes[i + k] = *b;
+        }
     }
 }
 
