@@ -3,16 +3,16 @@ use Rattle.std.specs.Prelude.{None, Option, Some}
 use Rattle.std.specs.Option.{IfSome}
 use Rattle.std.specs.Bool.{then_some}
 use mathlib.Core.Path.{◌≡◌, ◌∙◌, refl, sym, ap}
-use mathlib.Core.Bool.{Bool, true, false}
+use mathlib.Core.Bool.{Bool, true, false, not}
 use mathlib.Core.List.{List, [], ◌∷◌, ◌++◌}
 use Prim.Native.Nat.{ℕ, ◌+◌, ◌^◌, ◌<◌, ◌≤◌}
 use native.Mathlib.Omega.{arith}
 use lib.Dec.{ltb, eqb}
 use lib.ListN.{length, drop, set, length-append}
 use lib.Seq.{drop-drop, get_or-drop}
-use borrow.Author.Tests.{eq-eqb, ne_eqb, lt-ltb, le-ltb, ltb-true, ltb-false}
+use borrow.Author.Tests.{eq-eqb, ne_eqb, lt-ltb, le-ltb, ltb-true, ltb-false, eqb-true}
 use Rattle.lent.specs.Lent.{pick, both, at}
-use Rattle.lent.proofs.Laws.{test, never}
+use Rattle.lent.proofs.Laws.{test, never, both_true}
 use Rattle.text.specs.Text.{hex_of, number_in, begins, laid_of}
 use Rattle.text.proofs.Laws.{laid_none, laid_on, hex_length, says, begins_none, begins_append, begins_byte, begins_hex, both_both, both_none, both_some}
 use Rattle.word.specs.Word.{decode_of}
@@ -213,10 +213,13 @@ pub and_else : (a b : Bool) {r : Bool} → both a b ≡ r → a ≡ false → a 
 and_else true b e f = never (sym f)
 and_else false b e f = e
 
-both_off : (a b : Bool) → false ≡ both a (both b false)
-both_off true true = refl
-both_off true false = refl
-both_off false b = refl
+not_true : (x : Bool) {b : Bool} → b ≡ not x → b ≡ true → x ≡ false
+not_true true e f = never (sym e ∙ f)
+not_true false e f = refl
+
+not_false : (x : Bool) {b : Bool} → b ≡ not x → b ≡ false → x ≡ true
+not_false true e f = refl
+not_false false e f = never (sym f ∙ e)
 
 pub spaced_read : (t : List ℕ) (p d v : ℕ) {n : Option ℕ} {x : Bool} {c : ℕ} → v < 16 ^ d → n ≡ number_in d (drop p t) → x ≡ says n v → c ≡ at t (p + d) → both x (eqb c 32) ≡ begins (spaced_of d v) (drop p t)
 spaced_read t p d v k e x f = rw (x, e, f) (sym (begins_spaced d v (drop p t) k ∙ rw (get_or-drop p t d 0)))
@@ -257,15 +260,15 @@ module _ (s : Shown) (t : List ℕ) (p : ℕ) {k l : Option Kind} {u v c : ℕ}
       let w : at t (p + u + v) ≡ at (drop p t) (u + v) = ap (at t) (omega arith) ∙ sym (get_or-drop p t (u + v) 0) in
       rw (q, w, ← (drop-drop u p t), i, j, e, g) (sym (begins_operands s (drop p t) f))
 
-  pub operands_off : (c ≡ 10 → ⊥) → false ≡ begins (operands_of s) (drop p t)
-  operands_off o =
-      both_off (says (operand_in k (drop p t)) s.first) (says (operand_in l (drop (p + u) t)) s.second)
-      ∙ (ap (λ (b : Bool). both (says (operand_in k (drop p t)) s.first) (both (says (operand_in l (drop (p + u) t)) s.second) b)) (sym (ne_eqb c 10 o)) ∙ operands_parts)
+  pub operands_off : {m : Option ℕ} {b : Bool} → m ≡ operand_in k (drop p t) → b ≡ not (says m s.first) → b ≡ true → false ≡ begins (operands_of s) (drop p t)
+  operands_off a e h =
+      let x = not_true (says (operand_in k (drop p t)) s.first) (e ∙ ap (λ (o : Option ℕ). not (says o s.first)) a) h in
+      sym x ∙ and_else _ _ operands_parts x
 
-  pub operands_on : {m n : Option ℕ} {x y : Bool} → c ≡ 10 → m ≡ operand_in k (drop p t) → n ≡ operand_in l (drop (p + u) t) → x ≡ says m s.first → y ≡ says n s.second → both x y ≡ begins (operands_of s) (drop p t)
-  operands_on o a b x y =
-      rw (x, y, a, b)
-      (ap (both (says (operand_in k (drop p t)) s.first)) (sym (both_some (says (operand_in l (drop (p + u) t)) s.second) (eqb c 10) (eq-eqb c 10 o))) ∙ operands_parts)
+  pub operands_on : {m n : Option ℕ} {b y : Bool} → m ≡ operand_in k (drop p t) → b ≡ not (says m s.first) → b ≡ false → n ≡ operand_in l (drop (p + u) t) → y ≡ says n s.second → both y (eqb c 10) ≡ begins (operands_of s) (drop p t)
+  operands_on a e h d y =
+      let x = not_false (says (operand_in k (drop p t)) s.first) (e ∙ ap (λ (o : Option ℕ). not (says o s.first)) a) h in
+      rw (y, d) (and_then _ _ operands_parts x)
 
 pub items_parts : (s : Shown) (t : List ℕ) (p : ℕ) {n : List ℕ} {b : Bool} →
     n ≡ (row_of s.row).name → b ≡ begins n (drop p t) → both b (begins (operands_of s) (drop (p + length n) t)) ≡ begins ((row_of s.row).name ++ operands_of s) (drop p t)
@@ -309,39 +312,32 @@ good_word a t {w} {b} e f = rw (← e, ← f) (go b)
 abbrev size : ℕ → ℕ
 size n = 10 + length (row_of n).name + width_of (row_of n).first + width_of (row_of n).second
 
-all_sized : every (λ n. pick (ltb n 44) (ltb (size n) 22) true) 6 0 ≡ true
-unfolding every width_of row_of table
-all_sized = refl
+unfoldable pub lengths : List ℕ
+lengths =
+    17 ∷ 18 ∷ 17 ∷ 18 ∷ 17 ∷ 18 ∷ 17 ∷ 18 ∷ 17 ∷ 18 ∷ 16 ∷ 17 ∷ 17 ∷ 18 ∷ 17 ∷ 17 ∷ 19 ∷ 20 ∷ 19 ∷ 20 ∷ 21 ∷ 20 ∷ 21 ∷ 19 ∷ 17 ∷ 17 ∷ 17 ∷ 16 ∷ 17 ∷ 17 ∷ 17 ∷ 17 ∷ 18 ∷ 17 ∷ 17 ∷ 18 ∷ 14 ∷ 14 ∷ 14 ∷ 17 ∷ 13 ∷ 14 ∷ 13 ∷ 14 ∷ []
 
-sized : (n : ℕ) → n < 44 → size n < 22
-sized n h =
-    let z : 0 + n ≡ n = omega arith in
-    let u : pick (ltb n 44) (ltb (size n) 22) true ≡ true = rw z at (every_at (λ n. pick (ltb n 44) (ltb (size n) 22) true) 6 0 n all_sized (omega arith)) in
-    ltb-true (size n) 22 (rw (lt-ltb n 44 h) at u)
+unfoldable sized : ℕ → Bool
+sized n = pick (ltb n 44) (both (eqb (at lengths n) (size n)) (ltb (at lengths n) 22)) true
+
+all_sized : every sized 6 0 ≡ true
+unfolding every sized lengths width_of row_of table
+all_sized = refl
 
 pub line_size : (a w : ℕ) → size (shown_of (decode_of w)).row ≡ length (line_of a w)
 line_size a w = omega (arith, line_length a w, operands_length (shown_of (decode_of w)))
 
+pub length_by_lem : (a w : ℕ) {n : ℕ} → w < 65536 → n ≡ (shown_of (decode_of w)).row → (at lengths n ≡ length (line_of a w)) × (at lengths n < 22)
+unfolding sized
+length_by_lem a w h e =
+    let m = (shown_of (decode_of w)).row in
+    let f = (word_fits w h).row in
+    let z : 0 + m ≡ m = omega arith in
+    let u : sized m ≡ true = rw z at (every_at sized 6 0 m all_sized (omega (arith, f))) in
+    let v = both_true (eqb (at lengths m) (size m)) (ltb (at lengths m) 22) (rw (lt-ltb m 44 f) at u) in
+    rw e (eqb-true (at lengths m) (size m) v.0 ∙ line_size a w, ltb-true (at lengths m) 22 v.1)
+
 pub line_few : (a w : ℕ) → w < 65536 → length (line_of a w) < 22
-line_few a w h = omega (arith, line_size a w, sized (shown_of (decode_of w)).row (word_fits w h).row)
-
--- the parts of a word's line, counted
-module _ (w : ℕ) (h : w < 65536) {r : ℕ} (e : r ≡ (shown_of (decode_of w)).row) where
-  row_fits : r < 44
-  row_fits = rw e (word_fits w h).row
-
-  pub fair_first_of : {k : Option Kind} → k ≡ (row_of r).first → IfSome k Fair
-  fair_first_of f = rw f (kinds_fair r row_fits).0
-
-  pub fair_second_of : {k : Option Kind} → k ≡ (row_of r).second → IfSome k Fair
-  fair_second_of g = rw g (kinds_fair r row_fits).1
-
-  named_row : {n : List ℕ} → n ≡ name_of r → n ≡ (row_of r).name
-  unfolding name_of
-  named_row g = rw (lt-ltb r 44 row_fits) at g
-
-  pub size_parts : {n : List ℕ} {k l : Option Kind} {u v : ℕ} → n ≡ name_of r → k ≡ (row_of r).first → l ≡ (row_of r).second → u ≡ width_of k → v ≡ width_of l → (10 + length n + u + v ≡ length (line_of 0 w)) × (10 + length n + u + v < 22)
-  size_parts a f g b c = rw (named_row a, b, c, f, g) (rw e (line_size 0 w), sized r row_fits)
+line_few a w h = let l = length_by_lem a w h refl in omega (arith, l.0, l.1)
 
 -- a line is as long at any address
 pub line_same : (a w : ℕ) → length (line_of a w) ≡ length (line_of 0 w)

@@ -12,6 +12,54 @@ const SPACE: u8 = b' ';
 
 const LINE_FEED: u8 = b'\n';
 
+// How many bytes the line of each row has: kept, since counting them for each line took half as long again.
+const LENGTHS: [usize; 44] = [
+    17, // ADC
+    18, // ADCM
+    17, // ADD
+    18, // ADDM
+    17, // SBC
+    18, // SBCM
+    17, // SUB
+    18, // SUBM
+    17, // EOR
+    18, // EORM
+    16, // OR
+    17, // ORM
+    17, // AND
+    18, // ANDM
+    17, // LDA
+    17, // STA
+    19, // ADI
+    20, // ADIM
+    19, // SBI
+    20, // SBIM
+    21, // EORIM
+    20, // ORIM
+    21, // ANDIM
+    19, // LDI
+    17, // BNZ
+    17, // BNC
+    17, // BAZ
+    16, // BC
+    17, // BA0
+    17, // BA1
+    17, // BA2
+    17, // BA3
+    18, // CALL
+    17, // DAA
+    17, // DAS
+    18, // RTNW
+    14, // RTNI
+    14, // HALT
+    14, // STOP
+    17, // JMP
+    13, // SHR
+    14, // TJMP
+    13, // NOP
+    14, // DATA
+];
+
 // A number and a space.
 fn put_spaced(room: &mut [u8], p: usize, digits: usize, v: u16)
     requires { (p ≤ 900000) × (digits ≤ 4) }
@@ -77,14 +125,13 @@ fn width(kind: Option<Kind>) -> usize
     kind.map_or(0, |k| 1 + k.digits)
 }
 
-// How many bytes a word's line has, whatever its address: address, word, a space behind each and the line feed are ten.
+// How many bytes a word's line has, whatever its address.
+#[tactic(auto, unfolding(crate::proofs::Laws::lengths))]
 pub fn length(w: u16) -> usize
     ensures { (result ≡ length (line_of 0 w)) × (result < 22) }
 {
     let row = mnemonics::row_of(w);
-    let first = width(mnemonics::first(row));
-    let second = width(mnemonics::second(row));
-    10 + mnemonics::name(row).len() + first + second
+    LENGTHS[row]
 }
 
 // Whether a number and a space stand at a place.
@@ -119,13 +166,12 @@ fn operands(text: &[u8], p: usize, s: Shown) -> bool
     ensures { result ≡ begins (operands_of s) (drop p text.now) }
 {
     let k = mnemonics::first(s.row);
-    let l = mnemonics::second(s.row);
-    let q = p + width(k);
-    let c = lent::peek(text, q + width(l));
-    if c != LINE_FEED {
+    if operand(text, p, k) != Some(s.first) {
         return false;
     }
-    operand(text, p, k) == Some(s.first) && operand(text, q, l) == Some(s.second)
+    let q = p + width(k);
+    let l = mnemonics::second(s.row);
+    operand(text, q, l) == Some(s.second) && lent::peek(text, q + width(l)) == LINE_FEED
 }
 
 // Whether the mnemonic that a word shows stands at a place, with all that follows it.

@@ -150,17 +150,20 @@ pub fn row_of(word: u16) -> usize
     match word {
         0..=0x3FFF => usize::from(word / 1024),
         0x4000..=0xC7FF => usize::from(word / 2048 + 8),
-        0xCB00..=0xCB7F => 33,
-        0xCD00..=0xCD7F => 34,
-        0xD000..=0xD0FF => 35,
-        0xD400 => 36,
-        0xD800 => 37,
-        0xDC00 => 38,
-        0xE000..=0xEFFF => 39,
-        0xF000 => 40,
-        0xF7FF => 41,
-        0xFFFF => 42,
-        _ => DATA,
+        // A match of its own: in one with the others, each word is held against the single words first.
+        _ => match word {
+            0xCB00..=0xCB7F => 33,
+            0xCD00..=0xCD7F => 34,
+            0xD000..=0xD0FF => 35,
+            0xD400 => 36,
+            0xD800 => 37,
+            0xDC00 => 38,
+            0xE000..=0xEFFF => 39,
+            0xF000 => 40,
+            0xF7FF => 41,
+            0xFFFF => 42,
+            _ => DATA,
+        },
     }
 }
 

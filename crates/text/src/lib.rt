@@ -18,13 +18,13 @@ fn digit(v: u16) -> u8
 }
 
 // The number that a digit stands for; `None` for a byte that is no digit.
+// One sum for both ranges: which of them a digit is in is not to be foreseen, and a jump would be.
 #[tactic(auto, unfolding(crate::specs::Text::value_of))]
 fn value(byte: u8) -> Option<u16>
     ensures { result ≡ value_of byte }
 {
     match byte {
-        b'0'..=b'9' => Some(u16::from(byte - b'0')),
-        b'A'..=b'F' => Some(u16::from(byte - b'A' + 10)),
+        b'0'..=b'9' | b'A'..=b'F' => Some(u16::from(byte % 16 + byte / 64 * 9)),
         _ => None,
     }
 }
