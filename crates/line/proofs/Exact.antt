@@ -1,7 +1,7 @@
 -- A line is good for an address exactly when it is what is written there for some word, and that word is the one it says.
 use Rattle.std.specs.Prelude.{None, Option, Some}
 use mathlib.Core.Path.{◌≡◌, ◌∙◌, ap, refl, sym}
-use mathlib.Core.Bool.{true}
+use mathlib.Core.Bool.{true, false}
 use mathlib.Core.List.{List, ◌++◌}
 use Prim.Native.Nat.{ℕ, ◌<◌}
 use lib.Dec.{eqb}
@@ -68,6 +68,15 @@ read_good a t {w} = go (word_in t) refl
         by_test (λ (o : Option ℕ). o ≡ Some w → Good a w t) (begins (line_of a v) t) (Some v) None
         (λ b e. let z = one_number e in let g : word_in t ≡ Some w = f ∙ ap Some z in record { said = g; fits = word_small t w g; there = rw (← z) b })
         (λ b e. no_number e)
+
+pub read_bad : (a : ℕ) (t : List ℕ) → line_in a t ≡ None → good_of a t ≡ false
+unfolding line_in good_of
+read_bad a t = go (word_in t)
+  where
+    go : (o : Option ℕ) → pick (written_for a o t) o None ≡ None → written_for a o t ≡ false
+    go None = λ e. refl
+    go (Some v) =
+        by_test (λ (o : Option ℕ). o ≡ None → begins (line_of a v) t ≡ false) (begins (line_of a v) t) (Some v) None (λ b e. no_number (sym e)) (λ b e. b)
 
 pub good_read : (a w : ℕ) (t : List ℕ) → w < 65536 → begins (line_of a w) t ≡ true → line_in a t ≡ Some w
 unfolding line_in
