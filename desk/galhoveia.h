@@ -76,7 +76,7 @@ extern "C" {
 #define GALHOVEIA_XREF_NUMBERS   5120 /* the tables of a cross-reference: a number for each cell and each word */
 #define GALHOVEIA_XREF_NONE      4096 /* in the tables: no address */
 #define GALHOVEIA_XREF_POINTED   0x00F /* the cell under which the tables keep the writers through $00F */
-#define GALHOVEIA_STACK_BYTES_MOST 16520
+#define GALHOVEIA_STACK_BYTES_MOST 16472
 
 /* The answer of every call. Where several refusals apply, the lowest number is told, but 7 only where nothing else
    applies, and in galhoveia_level 10 and 11 come before 9. */

@@ -51,7 +51,7 @@ pub fn galhoveia_listing_read(text: &[u8], program: &mut [u8], value: &mut u64) 
     ensures { stored (said result value.new) program.new ≡ host_listing_read_of text.now program.old }
 {
     let mut found = [0u16; 4096];
-    let a = paper::read(text, &mut found);
+    let a = paper::take(text, &mut found);
     match a {
         Ok(()) => store(&found, program, value),
         Err(why) => told::refused(why, value),

@@ -1,11 +1,11 @@
 -- A listing as loops write and read it: what is done, and what is still to be done.
-use Rattle.std.specs.Prelude.{Err, None, Ok, Some}
+use Rattle.std.specs.Prelude.{true, false, Err, None, Ok, Some}
 use mathlib.Core.Path.{◌≡◌, ◌∙◌, refl, sym, ap}
 use mathlib.Core.List.{List, [], ◌∷◌, ◌++◌, append-nil}
 use Prim.Native.Nat.{ℕ, suc, ◌+◌, ◌-◌, ◌<◌, ◌≤◌}
 use native.Mathlib.Omega.{arith}
 use native.Mathlib.Numerals.{add-one}
-use lib.ListN.{length, drop, set, replicate, drop_of_length-le, length-append, length-replicate}
+use lib.ListN.{length, drop, set, drop_of_length-le, length-append}
 use lib.Seq.{drop-drop}
 use borrow.Author.Tests.{lt-ltb, le-ltb, eq-eqb, ne_eqb}
 use Rattle.lent.specs.Lent.{at, over}
@@ -104,30 +104,37 @@ pub lines_on : (a w : ℕ) (p : List ℕ) → length (lines_of a (w ∷ p)) ≡ 
 unfolding lines_of
 lines_on a w p = omega (arith, length-append (line_of a w) (lines_of (a + 1) p), line_same a w)
 
--- The reader's answers.
-module _ (t o : List ℕ) {n e : ℕ} (f : n ≡ length (good_lines t)) (g : e ≡ length (listing_of (good_lines t))) where
-  pub too_few : (n ≡ 4096 → ⊥) → outcome (Err (Listing n)) o ≡ read_of t o
-  unfolding read_of whole
-  too_few h = rw (← f, ne_eqb n 4096 h)
+-- Whether a text is a listing and no more, by its good lines and where they end.
+module _ (t : List ℕ) {n e : ℕ} (f : n ≡ length (good_lines t)) (g : e ≡ length (listing_of (good_lines t))) where
+  pub whole_few : (n ≡ 4096 → ⊥) → (whole t ≡ false) × (n ≡ length (good_lines t))
+  unfolding whole
+  whole_few h = (rw (← f, ne_eqb n 4096 h), f)
 
   module _ (h : n ≡ 4096) where
-    pub more_behind : (e ≡ length t → ⊥) → outcome (Err (Listing 4096)) o ≡ read_of t o
-    unfolding read_of whole
-    more_behind k = rw (← f, ← g, eq-eqb n 4096 h, ne_eqb e (length t) k, h)
+    pub whole_behind : (e ≡ length t → ⊥) → (whole t ≡ false) × (4096 ≡ length (good_lines t))
+    unfolding whole
+    whole_behind k = (rw (← f, ← g, eq-eqb n 4096 h, ne_eqb e (length t) k), sym h ∙ f)
 
-    module _ (k : e ≡ length t) where
-      pub few_words : length o < 4096 → outcome (Err (Room 4096)) o ≡ read_of t o
-      unfolding read_of whole stored_of
-      few_words r = rw (← f, ← g, eq-eqb n 4096 h, eq-eqb e (length t) k, lt-ltb (length o) 4096 r)
+    -- 4,096 words fill the words that were there
+    pub whole_all : (o : List ℕ) {w : List ℕ} → e ≡ length t → length o ≡ 4096 → w ≡ laid_of o 0 (good_lines t) → (whole t ≡ true) × (w ≡ good_lines t)
+    unfolding whole over
+    whole_all o k l q =
+        let r : length o ≤ length (good_lines t) = omega arith in
+        let s : length (good_lines t) ≤ length o = omega arith in (
+          rw (← f, ← g, eq-eqb n 4096 h, eq-eqb e (length t) k),
+          q ∙ (laid_front o (good_lines t) s ∙ (ap (λ (l : List ℕ). good_lines t ++ l) (drop_of_length-le o r) ∙ append-nil (good_lines t))),
+        )
 
-      -- 4,096 words fill the words that were there
-      all_words : {w : List ℕ} → w ≡ laid_of (replicate {A = ℕ} 4096 0) 0 (good_lines t) → w ≡ good_lines t
-      unfolding over
-      all_words q =
-          let r : length (replicate {A = ℕ} 4096 0) ≤ length (good_lines t) = omega (arith, length-replicate {A = ℕ} 4096 0) in
-          let s : length (good_lines t) ≤ length (replicate {A = ℕ} 4096 0) = omega (arith, length-replicate {A = ℕ} 4096 0) in
-          q ∙ (laid_front (replicate {A = ℕ} 4096 0) (good_lines t) s ∙ (ap (λ (l : List ℕ). good_lines t ++ l) (drop_of_length-le (replicate {A = ℕ} 4096 0) r) ∙ append-nil (good_lines t)))
+-- The reader's answers.
+module _ (t o : List ℕ) where
+  pub read_none : whole t ≡ false → outcome (Err (Listing (length (good_lines t)))) o ≡ read_of t o
+  unfolding read_of
+  read_none f = rw f
 
-      pub words_stored : {w o' : List ℕ} → w ≡ laid_of (replicate {A = ℕ} 4096 0) 0 (good_lines t) → 4096 ≤ length o → o' ≡ over w o → outcome (Ok tt) o' ≡ read_of t o
-      unfolding read_of whole stored_of
-      words_stored q r u = rw (← f, ← g, eq-eqb n 4096 h, eq-eqb e (length t) k, le-ltb (length o) 4096 r, u, all_words q)
+  pub few_words : whole t ≡ true → length o < 4096 → outcome (Err (Room 4096)) o ≡ read_of t o
+  unfolding read_of stored_of
+  few_words f r = rw (f, lt-ltb (length o) 4096 r)
+
+  pub words_stored : {w o' : List ℕ} → whole t ≡ true → w ≡ good_lines t → 4096 ≤ length o → o' ≡ over w o → outcome (Ok tt) o' ≡ read_of t o
+  unfolding read_of stored_of
+  words_stored f q r u = rw (f, le-ltb (length o) 4096 r, u, q)

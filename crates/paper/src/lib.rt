@@ -1,11 +1,12 @@
 // A program on paper: 4,096 lines of text, and the same text back into 4,096 words (02, P3).
 #![tactic(auto)]
 
-ghost use Rattle.std.specs.Prelude.{◌≡◌, ◌≤◌, length};
+ghost use Rattle.std.specs.Prelude.{true, false, ◌≡◌, ◌≤◌, length, MatchResult};
 ghost use Rattle.lent.specs.Lent.{over};
 ghost use Rattle.lent.specs.Outcome.{outcome};
 ghost use Rattle.text.specs.Text.{laid_of};
-ghost use Rattle.paper.specs.Listing.{listing_of, good_lines, write_of, read_of};
+ghost use Rattle.paper.specs.Listing.{listing_of, good_lines, whole, write_of, read_of};
+ghost use Rattle.refusal.specs.declared.Refusal.TheVariants.{Listing};
 
 use refusal::Refusal;
 
@@ -87,18 +88,27 @@ fn copy(words: &[u16], room: &mut [u16])
     room[..words.len()].copy_from_slice(words);
 }
 
-// The program of a listing at the front of a room, or why it is not read; what lies beyond it stays.
-pub fn read(text: &[u8], room: &mut [u16]) -> Result<(), Refusal>
-    ensures { outcome result room.new ≡ read_of text.now room.old }
+// The words of a listing in as many words as a program has, or why it is none; then they hold those of its good lines.
+pub fn take(text: &[u8], words: &mut [u16]) -> Result<(), Refusal>
+    requires { length words.old ≡ 4096 }
+    ensures { MatchResult result (λ _. (whole text.now ≡ true) × (words.new ≡ good_lines text.now)) (λ why. (whole text.now ≡ false) × (why ≡ Listing (length (good_lines text.now))) × (words.new ≡ laid_of words.old 0 (good_lines text.now))) }
 {
-    let mut words = [0u16; WORDS];
-    let f = good_lines(text, &mut words);
+    let f = good_lines(text, words);
     if f.lines != WORDS {
         return Err(Refusal::Listing(f.lines as u64));
     }
     if f.end != text.len() {
         return Err(Refusal::Listing(WORDS as u64));
     }
+    Ok(())
+}
+
+// The program of a listing at the front of a room, or why it is not read; what lies beyond it stays.
+pub fn read(text: &[u8], room: &mut [u16]) -> Result<(), Refusal>
+    ensures { outcome result room.new ≡ read_of text.now room.old }
+{
+    let mut words = [0u16; WORDS];
+    take(text, &mut words)?;
     if room.len() < WORDS {
         return Err(Refusal::Room(WORDS as u64));
     }
