@@ -16,21 +16,53 @@ fn main(rt: HostRuntime) -> io::Result<()> {
 
 // Writes the line of a word.
 fn show(out: &mut impl Write, word: u16) -> io::Result<()> {
+    out.write_all(&in_four(word))?;
     match word::decode(word) {
         Ok(i) => {
-            write!(out, "{word:04X} {} ", Listed(i))?;
+            write!(out, " {} ", Listed(i))?;
             back(out, i)
         }
-        Err(why) => writeln!(out, "{word:04X} unlisted {}", Refused(why)),
+        Err(why) => writeln!(out, " unlisted {}", Refused(why)),
     }
 }
 
 // What an instruction is written as.
 fn back(out: &mut impl Write, i: Instruction) -> io::Result<()> {
     match word::encode(i) {
-        Ok(word) => writeln!(out, "{word:04X}"),
+        Ok(word) => {
+            let [a, b, c, d] = in_four(word);
+            out.write_all(&[a, b, c, d, b'\n'])
+        }
         Err(why) => writeln!(out, "{}", Refused(why)),
     }
+}
+
+// A number in four hexadecimal digits. The library's formats of numbers would take half of the program's time.
+fn in_four(n: u16) -> [u8; 4] {
+    [digit(n / 4096), digit(n / 256), digit(n / 16), digit(n)]
+}
+
+// The last hexadecimal digit of a number.
+fn digit(n: u16) -> u8 {
+    b"0123456789ABCDEF"[(n % 16) as usize]
+}
+
+// A number's last hexadecimal digits, so many of the four.
+#[derive(Clone, Copy)]
+struct Digits {
+    number: u16,
+    many: usize,
+}
+
+impl fmt::Display for Digits {
+    fn fmt<W: fmt::Write>(&self, f: &mut fmt::Formatter<W>) -> fmt::Result {
+        let last = &in_four(self.number)[4usize.saturating_sub(self.many)..];
+        f.write_str(str::from_utf8(last).unwrap_or(""))
+    }
+}
+
+fn in_digits(number: u16, many: usize) -> Digits {
+    Digits { number, many }
 }
 
 // A refusal's number and value.
@@ -57,35 +89,50 @@ impl fmt::Display for Listed {
         match self.0 {
             Instruction::Accumulator(operation, address) => write!(
                 f,
-                "{} {address:03X}",
-                name(operation)
+                "{} {}",
+                name(operation),
+                in_digits(address, 3)
             ),
             Instruction::Memory(operation, address) => write!(
                 f,
-                "{}M {address:03X}",
-                name(operation)
+                "{}M {}",
+                name(operation),
+                in_digits(address, 3)
             ),
-            Instruction::Lda(address) => write!(f, "LDA {address:03X}"),
-            Instruction::Sta(address) => write!(f, "STA {address:03X}"),
+            Instruction::Lda(address) => write!(f, "LDA {}", in_digits(address, 3)),
+            Instruction::Sta(address) => write!(f, "STA {}", in_digits(address, 3)),
             Instruction::Immediate(operation, x, immediate) => write!(
                 f,
-                "{} {x:02X} {immediate:X}",
-                immediate_name(operation)
+                "{} {} {}",
+                immediate_name(operation),
+                in_digits(x, 2),
+                in_digits(immediate as u16, 1)
             ),
-            Instruction::Ldi(x, immediate) => write!(f, "LDI {x:02X} {immediate:X}"),
+            Instruction::Ldi(x, immediate) => write!(
+                f,
+                "LDI {} {}",
+                in_digits(x, 2),
+                in_digits(immediate as u16, 1)
+            ),
             Instruction::Branch(condition, target) => write!(
                 f,
-                "{} {target:03X}",
-                condition_name(condition)
+                "{} {}",
+                condition_name(condition),
+                in_digits(target, 3)
             ),
-            Instruction::Call(target) => write!(f, "CALL {target:03X}"),
-            Instruction::Daa(x) => write!(f, "DAA {x:02X}"),
-            Instruction::Das(x) => write!(f, "DAS {x:02X}"),
-            Instruction::Rtnw(high, low) => write!(f, "RTNW {high:X} {low:X}"),
+            Instruction::Call(target) => write!(f, "CALL {}", in_digits(target, 3)),
+            Instruction::Daa(x) => write!(f, "DAA {}", in_digits(x, 2)),
+            Instruction::Das(x) => write!(f, "DAS {}", in_digits(x, 2)),
+            Instruction::Rtnw(high, low) => write!(
+                f,
+                "RTNW {} {}",
+                in_digits(high as u16, 1),
+                in_digits(low as u16, 1)
+            ),
             Instruction::Rtni => f.write_str("RTNI"),
             Instruction::Halt => f.write_str("HALT"),
             Instruction::Stop => f.write_str("STOP"),
-            Instruction::Jmp(target) => write!(f, "JMP {target:03X}"),
+            Instruction::Jmp(target) => write!(f, "JMP {}", in_digits(target, 3)),
             Instruction::Shr => f.write_str("SHR"),
             Instruction::Tjmp => f.write_str("TJMP"),
             Instruction::Nop => f.write_str("NOP"),
